@@ -1,0 +1,4 @@
+pub mod Wire
+pub mod Pattern
+pub mod Packets
+pub mod Orders
