@@ -38,5 +38,8 @@ pub fn delivered_before(x: &Packet, y: &Packet) -> bool
     ensures value { λ r. ⌜ r ≡ delivered-before (now (x .entry)) (now (y .entry)) ⌝ }
     ensures order { λ _. ⌜ StrictOrder delivered-before PacketsDiffer ⌝ }
 {
-    x.arrival < y.arrival || (x.arrival == y.arrival && x.flow < y.flow)
+    if x.arrival != y.arrival {
+        return x.arrival < y.arrival;
+    }
+    x.flow < y.flow
 }

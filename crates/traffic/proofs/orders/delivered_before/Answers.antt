@@ -1,7 +1,11 @@
 -- Delivery order by its two keys.
-use borrow.Author.Needs.{needs}
+use native.Mathlib.Omega.{arith}
+use Rattle.std.proofs.shelf.Ways.{tells}
 use Rattle.traffic.proofs.Total.{delivery-order}
 use Rattle.traffic.proofs.orders.delivered_before.Needs as need
 
+pub returns-then-x-y : need.returns-then-x-y
+returns-then-x-y c = record { value = grind (arith, tells); order = delivery-order }
+
 pub returns : need.returns
-returns c = record { value = search needs; order = delivery-order }
+returns c = record { value = grind (arith, tells); order = delivery-order }
