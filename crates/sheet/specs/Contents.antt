@@ -1,0 +1,8 @@
+-- What a sheet says. Assumes nothing.
+use Rattle.std.specs.Of.Vec.{vec-items}
+use Rattle.traffic.specs.Packets.{Traffic}
+use Rattle.sheet.specs.declared.sheet.Sheet.{Sheet}
+
+-- the rate and the flows of a sheet
+abbrev pub traffic-of : Sheet → Traffic
+traffic-of s = record { rate = s .rate; flows = vec-items (s .flows) }

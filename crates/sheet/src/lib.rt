@@ -1,0 +1,2 @@
+// The flow sheet: its text, its flows and its cycle.
+pub mod sheet;

@@ -1,0 +1,21 @@
+// A sheet of flows.
+ghost use mathlib.Core.Path.{_≡_};
+ghost use mathlib.Core.Bool.{true};
+ghost use Prim.Native.Nat.{_≤_};
+ghost use Rattle.std.specs.Of.Vec.{vec-items, vec-len};
+ghost use Rattle.sheet.specs.Ranges.{all-kept};
+use traffic::flow::Flow;
+use traffic::rate::Rate;
+
+pub mod parts;
+
+// The rate of the line and the flows, which count from 1; none where no sheet was read.
+#[derive(Drop)]
+pub struct Sheet {
+    rate: Rate,
+    flows: Vec<Flow>,
+    cycle: u64,
+    ghost few: { vec-len flows ≤ 64 },
+    ghost kept: { all-kept rate (vec-items flows) ≡ true },
+    ghost short: { cycle ≤ 1000000000 },
+}
