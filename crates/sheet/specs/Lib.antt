@@ -1,2 +1,5 @@
 pub mod Ranges
+pub mod Numbers
+pub mod Cuts
+pub mod Lines
 pub mod Contents
