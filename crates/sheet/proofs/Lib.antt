@@ -1,1 +1,4 @@
 pub mod Cutting
+pub mod Steps
+pub mod Loops
+pub mod Wholes

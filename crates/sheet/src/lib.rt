@@ -3,4 +3,5 @@ pub mod cuts;
 pub mod digits;
 pub mod faults;
 pub mod lines;
+pub mod reader;
 pub mod sheet;

@@ -1,0 +1,4 @@
+pub mod Divisors
+pub mod Multiples
+pub mod Limits
+pub mod Repeats

@@ -1,0 +1,10 @@
+-- Euclid's turns keep the greatest common divisor.
+use mathlib.Core.Path.{_≡_}
+use Rattle.cycle.specs.Multiple.{gcd}
+use Rattle.cycle.proofs.multiple.gcd.Given as given
+
+abbrev pub Inv-loop-y : given.InvT-loop-y
+Inv-loop-y l = gcd (l .x) (l .y) ≡ gcd (l .a) (l .b)
+
+abbrev pub μ-loop-y : given.MeasureT-loop-y
+μ-loop-y l = l .y
