@@ -6,3 +6,4 @@ pub mod Reading
 pub mod Readers
 pub mod Contents
 pub mod Spelling
+pub mod Refusals

@@ -4,4 +4,5 @@ pub mod digits;
 pub mod faults;
 pub mod lines;
 pub mod reader;
+pub mod refusals;
 pub mod sheet;

@@ -1,5 +1,7 @@
 // What a sheet says, part by part.
 ghost use mathlib.Core.Path.{_≡_};
+ghost use Prim.Native.Nat.{_≤_};
+ghost use Rattle.cycle.specs.Cycle.{cycle-of};
 ghost use Rattle.sheet.specs.Contents.{traffic-of};
 use super::Sheet;
 use traffic::flow::Flow;
@@ -22,7 +24,8 @@ impl Sheet {
 
     // The cycle in nanoseconds.
     pub fn cycle(&self) -> u64
-        ensures { λ r. ⌜ r ≡ now (self .entry) .cycle ⌝ }
+        ensures value { λ r. ⌜ r ≡ cycle-of (traffic-of (now (self .entry)) .flows) ⌝ }
+        ensures short { λ r. ⌜ r ≤ 1000000000 ⌝ }
     {
         self.cycle
     }
