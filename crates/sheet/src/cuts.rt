@@ -19,7 +19,7 @@ fn place_of(text: &[u8], b: u8) -> Option<usize>
 }
 
 // The part before the first byte `b` and the part behind it; none where there is no such byte.
-pub fn cut(text: &[u8], b: u8) -> Option<(&[u8], &[u8])>
+pub(crate) fn cut(text: &[u8], b: u8) -> Option<(&[u8], &[u8])>
     ensures { λ r. ⌜ mapped both-parts r ≡ cut-at b (now (text .entry)) ⌝ }
 {
     let i = place_of(text, b)?;

@@ -25,7 +25,7 @@ fn decimal(bytes: &[u8]) -> Option<u64>
 }
 
 // The number that the bytes write, or the first cause why they write none.
-pub fn number(line: u32, bytes: &[u8]) -> Result<u64, DigitFault>
+pub(crate) fn number(line: u32, bytes: &[u8]) -> Result<u64, DigitFault>
     ensures { λ r. ⌜ r ≡ on-line line (read-number (now (bytes .entry))) ⌝ }
 {
     if bytes.len() == 0 {

@@ -1,8 +1,8 @@
 // The flow sheet: its text, its flows and its cycle.
-pub mod cuts;
-pub mod digits;
+mod cuts;
+mod digits;
 pub mod faults;
-pub mod lines;
-pub mod reader;
+mod lines;
+mod reader;
 pub mod refusals;
 pub mod sheet;

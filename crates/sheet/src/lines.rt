@@ -98,7 +98,7 @@ fn spelled(bytes: &[u8], keys: &[Key]) -> Option<Key>
 }
 
 // The key that the bytes spell.
-pub fn key_of(bytes: &[u8]) -> Option<Key>
+pub(crate) fn key_of(bytes: &[u8]) -> Option<Key>
     ensures { λ r. ⌜ r ≡ key-of (now (bytes .entry)) ⌝ }
 {
     spelled(bytes, &KEYS)
@@ -106,7 +106,7 @@ pub fn key_of(bytes: &[u8]) -> Option<Key>
 
 impl<'a> Line<'a> {
     // The line with a key.
-    pub fn with(key: Key, part: Part<'a>) -> Line<'a>
+    pub(crate) fn with(key: Key, part: Part<'a>) -> Line<'a>
         ensures { λ r. ⌜ r ≡ line-with key (part .entry) ⌝ }
     {
         match key {
@@ -124,7 +124,7 @@ impl<'a> Line<'a> {
     }
 
     // Its key.
-    pub fn key(&self) -> Key
+    pub(crate) fn key(&self) -> Key
         ensures { λ r. ⌜ r ≡ line-key (now (self .entry)) ⌝ }
     {
         match *self {
@@ -142,7 +142,7 @@ impl<'a> Line<'a> {
     }
 
     // Its number.
-    pub fn part(&self) -> Part<'a>
+    pub(crate) fn part(&self) -> Part<'a>
         ensures { λ r. ⌜ r ≡ line-part (now (self .entry)) ⌝ }
     {
         match *self {
@@ -160,7 +160,7 @@ impl<'a> Line<'a> {
     }
 
     // Its number, where it has the key that is expected.
-    pub fn expect(&self, key: Key) -> Result<Part<'a>, LineFault>
+    pub(crate) fn expect(&self, key: Key) -> Result<Part<'a>, LineFault>
         ensures { λ r. ⌜ r ≡ cond (same-key (line-key (now (self .entry))) key) (Ok (line-part (now (self .entry)))) (Err (Form (line-part (now (self .entry)) .line))) ⌝ }
     {
         let part = self.part();
@@ -173,7 +173,7 @@ impl<'a> Line<'a> {
 
 impl<'a> Part<'a> {
     // The number that the part writes, from `low` to `high`.
-    pub fn between(&self, low: u64, high: u64) -> Result<u64, LineFault>
+    pub(crate) fn between(&self, low: u64, high: u64) -> Result<u64, LineFault>
         ensures { λ r. ⌜ r ≡ ranged (now (self .entry) .line) low high (now (now (self .entry) .bytes)) ⌝ }
     {
         let n = number(self.line, self.bytes)?;

@@ -34,12 +34,12 @@ pub fn queue_before(x: &Job, y: &Job) -> bool
 }
 
 // Delivery order: earlier arrival, then smaller flow.
-pub fn delivered_before(x: &Packet, y: &Packet) -> bool
-    ensures value { λ r. ⌜ r ≡ delivered-before (now (x .entry)) (now (y .entry)) ⌝ }
+pub fn delivered_before(p: &Packet, q: &Packet) -> bool
+    ensures value { λ r. ⌜ r ≡ delivered-before (now (p .entry)) (now (q .entry)) ⌝ }
     ensures order { λ _. ⌜ StrictOrder delivered-before PacketsDiffer ⌝ }
 {
-    if x.arrival != y.arrival {
-        return x.arrival < y.arrival;
+    if p.arrival != q.arrival {
+        return p.arrival < q.arrival;
     }
-    x.flow < y.flow
+    p.flow < q.flow
 }

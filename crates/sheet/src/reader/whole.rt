@@ -34,7 +34,7 @@ impl<'a> Reader<'a> {
 }
 
 // The rate and, into an empty vector, the flows that the lines of a text say.
-pub fn read_lines(text: &[u8], flows: &mut Vec<Flow>) -> Result<Rate, SheetFault>
+pub(crate) fn read_lines(text: &[u8], flows: &mut Vec<Flow>) -> Result<Rate, SheetFault>
     requires { ⌜ vec-items (now flows) ≡ [] ⌝ }
     ensures { λ r. ⌜ Cases r (λ v. (lines-of (now (text .entry)) ≡ Ok (record { rate = v; flows = vec-items (now (flows .exit)) })) × (vec-len (now (flows .exit)) ≤ 64) × (all-kept v (vec-items (now (flows .exit))) ≡ true)) (λ e. (e ≡ Memory) ⊎ (in-sheet (lines-of (now (text .entry))) ≡ Err e)) ⌝ }
 {
