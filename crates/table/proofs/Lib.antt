@@ -1,0 +1,3 @@
+-- Lemmas of the table.
+pub mod Places
+pub mod Moves
