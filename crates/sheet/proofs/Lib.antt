@@ -1,4 +1,9 @@
 pub mod Cutting
+pub mod Outcomes
+pub mod Numerals
+pub mod KeyLines
+pub mod FlowLines
+pub mod Spelled
 pub mod Steps
 pub mod Loops
 pub mod Wholes

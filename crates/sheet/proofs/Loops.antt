@@ -6,9 +6,8 @@ use mathlib.Core.Logic.{_⊎_, inl, inr}
 use Prim.Native.Nat.{ℕ, zero, suc, _+_, _-_, _≤_, _<_}
 use native.Mathlib.Omega.{arith}
 use lib.ListN.{length}
-use lib.Dec.{leb}
 use Rattle.std.specs.shelf.Lists.{All}
-use Rattle.std.proofs.shelf.Tests.{eq-eqb, and-parts, and-from, leb-true}
+use Rattle.std.proofs.shelf.Tests.{eq-eqb, and-parts, and-from}
 use Rattle.std.specs.declared.result.Result.{Result}
 use Rattle.std.specs.declared.result.Result.the-variants.{Ok, Err}
 use Rattle.traffic.specs.declared.rate.Rate.{Rate}
@@ -17,8 +16,10 @@ use Rattle.sheet.specs.declared.faults.LineFault.{LineFault}
 use Rattle.sheet.specs.declared.faults.SheetFault.{SheetFault}
 use Rattle.sheet.specs.declared.faults.SheetFault.the-variants.{Memory}
 use Rattle.sheet.specs.declared.faults.SheetFault.the-variants as fault
-use Rattle.sheet.specs.Ranges.{between, flow-ranged, flow-kept, all-kept}
+use Rattle.sheet.specs.Ranges.{flow-kept, all-kept}
 use Rattle.sheet.specs.Reading.{Cursor, and-then, rate-line, heading-line, flow-lines, flows-from, lines-of, in-sheet}
+use Rattle.sheet.proofs.Numerals.{between-parts}
+use Rattle.sheet.proofs.FlowLines.{kept-parts}
 
 module _ (rate : Rate) (done : List Flow) (count : ℕ) (c : Cursor) (counted : count ≡ length done) where
   -- the next line is at fault
@@ -72,8 +73,4 @@ pub periods-some : (r : Rate) (fs : List Flow) → all-kept r fs ≡ true → Al
 periods-some r [] all = tt
 periods-some r (f ∷ fs) all =
     let both = and-parts (flow-kept r f) (all-kept r fs) all in
-    let ranged = and-parts (flow-ranged f) _ (both .0) .0 in
-    let from-octets = and-parts (between 1 7 (f .queue)) _ ranged .1 in
-    let from-period = and-parts (between 64 1522 (f .octets)) _ from-octets .1 in
-    let period = and-parts (between 1 1000000000 (f .period)) _ from-period .0 in
-    (leb-true 1 (f .period) (and-parts (leb 1 (f .period)) _ period .0), periods-some r fs (both .1))
+    (between-parts 1 1000000000 (f .period) (kept-parts r f (both .0) .period) .0, periods-some r fs (both .1))

@@ -2,39 +2,21 @@
 use mathlib.Core.Path.{_≡_, refl, sym, ap, _∙_}
 use mathlib.Core.Bool.{Bool, true, false, cond}
 use mathlib.Core.Logic.{⊎-elim}
-use Prim.Native.Nat.{ℕ, _+_, _≤_}
+use Prim.Native.Nat.{ℕ, _+_}
 use native.Mathlib.Omega.{arith}
-use lib.Dec.{leb}
-use Rattle.std.proofs.shelf.Tests.{cases-bool, and-parts, leb-true}
+use Rattle.std.proofs.shelf.Tests.{cases-bool}
 use Rattle.std.specs.Results.{Cases}
 use Rattle.std.specs.declared.result.Result.{Result}
 use Rattle.std.specs.declared.result.Result.the-variants.{Ok, Err}
-use Rattle.sheet.specs.declared.faults.DigitFault.{DigitFault}
 use Rattle.sheet.specs.declared.faults.LineFault.{LineFault}
 use Rattle.sheet.specs.declared.faults.LineFault.the-variants.{Form}
 use Rattle.sheet.specs.declared.lines.Key.{Key}
 use Rattle.sheet.specs.declared.lines.Line.{Line}
 use Rattle.sheet.specs.declared.lines.Part.{Part}
-use Rattle.sheet.specs.Ranges.{between}
-use Rattle.sheet.specs.Lines.{line-key, line-part, same-key, in-range, ranged}
+use Rattle.sheet.specs.Lines.{line-key, line-part, same-key, ranged}
 use Rattle.sheet.specs.Reading.{Cursor, Keyed, and-then, next-line, expected, number-line}
 use Rattle.sheet.specs.Readers.{keyed-line, NumberRead}
-
--- a number that was let through lies in its range
-pub in-range-within : (n low high : ℕ) (x : Result ℕ DigitFault) (v : ℕ) → in-range n low high x ≡ Ok v → (low ≤ v) × (v ≤ high)
-in-range-within n low high (Err d) v e = let z : _≡_ {A = ℕ} 0 1 = cc in absurd (omega arith)
-in-range-within n low high (Ok w) v e = ⊎-elim
-    (λ (b : between low high w ≡ true).
-    let ok : _≡_ {A = Result ℕ LineFault} (Ok w) (Ok v) = rw b at e in
-    let same : w ≡ v = cc in
-    let both = and-parts (leb low w) (leb w high) b in
-    let least = leb-true low w (both .0) in
-    let most = leb-true w high (both .1) in
-    (omega arith, omega arith))
-    (λ (b : between low high w ≡ false).
-    let bad = rw b at e in
-    let z : _≡_ {A = ℕ} 0 1 = cc in absurd (omega arith))
-    (cases-bool (between low high w))
+use Rattle.sheet.proofs.Numerals.{between-parts, ranged-parts}
 
 -- a line with its key, and then its number
 pub number-reads : (k : Key) (low high : ℕ) (c : Cursor) (l : Line) (after : Cursor) (part : Part) (r : Result ℕ LineFault) →
@@ -58,6 +40,6 @@ number-reads k low high c l after part r next place on key num = ⊎-elim
         number-line k low high c ≡ and-then (ranged (c .line) low high (line-part l .bytes .now)) (λ n. Ok (n, after)) →
         Cases r (λ n. NumberRead k low high c n after) (λ e. number-line k low high c ≡ Err e)
     go (Ok n) e whole =
-        let within = in-range-within (c .line) low high _ n (sym e) in
+        let within = between-parts low high n (ranged-parts (c .line) low high (line-part l .bytes .now) n (sym e) .1) in
         record { reads = whole ∙ ap (λ (x : Result ℕ LineFault). and-then {Y = ℕ × Cursor} x (λ m. Ok (m, after))) (sym e); place = on; least = within .0; most = within .1 }
     go (Err f) e whole = whole ∙ ap (λ (x : Result ℕ LineFault). and-then {Y = ℕ × Cursor} x (λ m. Ok (m, after))) (sym e)

@@ -56,6 +56,10 @@ Reads-exactly =
     ((text : List ℕ) (t : Traffic) → sheet-of text ≡ Ok t → Kept t × (text ≡ sheet-text t))
     × ((t : Traffic) → Kept t → sheet-of (sheet-text t) ≡ Ok t)
 
+-- the text of no sheet that keeps all
+abbrev pub No-sheet : List ℕ → Type 0
+No-sheet text = (t : Traffic) → Kept t → text ≡ sheet-text t → ⊥
+
 -- two sheets never share a text
 abbrev pub One-sheet : Type 0
 One-sheet = (t u : Traffic) → Kept t → Kept u → sheet-text t ≡ sheet-text u → t ≡ u

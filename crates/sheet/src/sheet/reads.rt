@@ -12,6 +12,7 @@ ghost use Rattle.cycle.specs.Cycle.{cycle-of};
 ghost use Rattle.sheet.specs.Ranges.{all-kept};
 ghost use Rattle.sheet.specs.Contents.{traffic-of, no-traffic};
 ghost use Rattle.sheet.specs.Reading.{sheet-of};
+ghost use Rattle.sheet.specs.Spelling.{Kept, sheet-text, No-sheet, One-sheet};
 use super::Sheet;
 use crate::faults::SheetFault;
 use crate::reader::whole::read_lines;
@@ -47,9 +48,12 @@ impl Sheet {
         Sheet { rate: Rate::Mbit10, flows: Vec::new(heap), cycle: 1 }
     }
 
-    // Reads a text; refused, it leaves the sheet without flows.
+    // Reads a text; refused, it leaves the sheet without flows. A text is read exactly when it is the text of a sheet
+    // that keeps all, and no two sheets share a text.
     pub fn read(&mut self, text: &[u8]) -> Result<(), SheetFault>
-        ensures { λ r. ⌜ Cases r (λ _. sheet-of (now (text .entry)) ≡ Ok (traffic-of (now (self .exit)))) (λ e. (traffic-of (now (self .exit)) ≡ no-traffic) × ((e ≡ Memory) ⊎ (sheet-of (now (text .entry)) ≡ Err e))) ⌝ }
+        ensures cases { λ r. ⌜ Cases r (λ _. sheet-of (now (text .entry)) ≡ Ok (traffic-of (now (self .exit)))) (λ e. (traffic-of (now (self .exit)) ≡ no-traffic) × ((e ≡ Memory) ⊎ (sheet-of (now (text .entry)) ≡ Err e))) ⌝ }
+        ensures exact { λ r. ⌜ Cases r (λ _. Kept (traffic-of (now (self .exit))) × (now (text .entry) ≡ sheet-text (traffic-of (now (self .exit))))) (λ e. (e ≡ Memory) ⊎ No-sheet (now (text .entry))) ⌝ }
+        ensures distinct { λ _. ⌜ One-sheet ⌝ }
     {
         self.flows.clear();
         match read_text(text, &mut self.flows) {
