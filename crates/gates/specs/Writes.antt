@@ -7,6 +7,7 @@ use lib.Dec.{eqb, ltb}
 use lib.ListN.{length, take, drop}
 use Rattle.std.specs.declared.option.Option.{Option}
 use Rattle.std.specs.declared.option.Option.the-variants.{Some, None}
+use Rattle.refusal.specs.declared.Refusal.{Refusal}
 use Rattle.gates.specs.declared.entry.Entry.{Entry}
 use Rattle.gates.specs.declared.text.WriteFault.{WriteFault}
 use Rattle.gates.specs.declared.text.WriteFault.the-variants.{Entries, Memory}
@@ -24,10 +25,10 @@ write-fault list room =
     cond (eqb (length list) 0 || ltb 1024 (length list)) (Some Entries)
     (cond (ltb room (length (list-text list))) (Some Memory) None)
 
--- the refusal that a fault is: which one on the list of refusals, its place and its number
-abbrev pub refusal-of : WriteFault → ℕ × ℕ × ℕ
-refusal-of Entries = (20, 0, 0)
-refusal-of Memory = (21, 0, 0)
+-- 20: the list is empty or too long; 21: the memory is shorter than the text
+abbrev pub refusal-of : WriteFault → Refusal
+refusal-of Entries = record { code = 20; place = 0; number = 0 }
+refusal-of Memory = record { code = 21; place = 0; number = 0 }
 
 -- the list was written: its text is the first n bytes of the memory, and what stood behind them stayed
 pub record Listed (list : List Entry) (n : ℕ) (before after : List ℕ) : Type 0 where

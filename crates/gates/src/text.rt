@@ -10,6 +10,7 @@ use crate::entry::Entry;
 use crate::text::digits::write_field;
 use crate::text::lengths::ample_length;
 use crate::text::lengths::text_length;
+use refusal::Refusal;
 
 mod digits;
 mod lengths;
@@ -29,13 +30,13 @@ pub enum WriteFault {
 }
 
 impl WriteFault {
-    // The refusal's number on the list of refusals, its place and its number.
-    pub fn refusal(self) -> (u8, u32, u32)
+    // The refusal that a fault stands for.
+    pub fn refusal(self) -> Refusal
         ensures { λ r. ⌜ r ≡ refusal-of self ⌝ }
     {
         match self {
-            WriteFault::Entries => (20, 0, 0),
-            WriteFault::Memory => (21, 0, 0),
+            WriteFault::Entries => Refusal { code: 20, place: 0, number: 0 },
+            WriteFault::Memory => Refusal { code: 21, place: 0, number: 0 },
         }
     }
 }

@@ -1,0 +1,11 @@
+pub mod Entries
+pub mod Behind
+pub mod Numbers
+pub mod Kept
+pub mod Dues
+pub mod Served
+pub mod Steps
+pub mod Inserts
+pub mod Nexts
+pub mod Rooms
+pub mod Admits

@@ -1,0 +1,68 @@
+-- Packet by packet, in the order of their arrival.
+use mathlib.Core.Path.{_≡_, refl, sym, ap, subst, _∙_}
+use mathlib.Core.List.{List, [], _∷_}
+use Prim.Native.Nat.{ℕ, _+_, _≤_, _<_, max}
+use native.Mathlib.Omega.{arith}
+use lib.ListN.{length}
+use Rattle.std.specs.shelf.Lists.{All}
+use Rattle.std.proofs.shelf.Elements.{all-from-getD}
+use Rattle.sheet.specs.Contents.{traffic-of}
+use Rattle.search.specs.declared.coming.Next.{Next}
+use Rattle.search.specs.Windows.{latest}
+use Rattle.search.specs.Coming.{Stepped, held, next-of}
+use Rattle.search.specs.Queues.{queue-at}
+use Rattle.search.specs.Tallies.{Tallied, standing}
+use Rattle.search.specs.Trials.{Passed, Tried}
+use Rattle.search.proofs.Steps.{Step, stepped, stepped-work}
+use Rattle.search.proofs.Nexts.{due-fits, come-again}
+use Rattle.search.proofs.Admits.{passed-later}
+use Rattle.search.proofs.trials.admit.Needs as need
+
+-- these all arrive at 0 or later
+all-late : (ns : List Next) → All (λ n. 0 ≤ n .packet .arrival) ns
+all-late [] = tt
+all-late (n ∷ ns) = (omega arith, all-late ns)
+
+pub loop-job-holds : need.loop-job-holds
+loop-job-holds c =
+    let tally = subst (λ (k : ℕ). Tallied k (c .args .windows .now) (c .args .tally)) (sym (c .cycle-cycle .ensures)) (c .pre .tally) in
+    (0, (c .pre .come, (record { tally = tally; last = sym (c .pre .none); passed = record { within = omega arith; ended = tt } }, all-late (held (queue-at (c .args .queues .now) 0)))))
+
+pub take-requires : need.take-requires
+take-requires c κs = record { queue = omega arith; comes = c .loop-job .inv .1 .0 0 (omega arith) }
+
+pub try-packet-trials-requires : need.try-packet-trials-requires
+try-packet-trials-requires c κs =
+    let s = c .args .sheet .now in
+    let x = c .in-Some .job in
+    let a = c .loop-job .inv .0 in
+    let before = held (queue-at (c .loop-job .queues) 0) in
+    let took : Stepped (traffic-of s) (s .cycle) 0 x before (held (queue-at (c .take .last .self) 0)) = c .in-Some .ensures tt .took in
+    let step = stepped (traffic-of s) (s .cycle) 0 x before (held (queue-at (c .take .last .self) 0)) (c .loop-job .inv .1 .0 0 (omega arith) .lined) took in
+    let later : a ≤ x .arrival = subst (All (λ (n : Next). a ≤ n .packet .arrival)) (took .1 .0) (c .loop-job .inv .1 .1 .1) .0 in
+    let ok = c .loop-job .inv .1 .1 .0 in
+    let early = step .due .early in
+    let short = s .short in
+    let t = c .loop-job .trials in
+    record {
+      tried = record { tally = ok .tally; last = ok .last; passed = passed-later (max a (t .last)) (max (x .arrival) (t .last)) (t .passed) (standing (c .loop-job .windows) (t .tally)) (omega arith) (ok .passed) };
+      memory = omega (arith, c .pre .memory, c .loop-job .kept .windows);
+      fits = (due-fits (traffic-of s) (s .cycle) 0 x (s .kept) short (step .due), step .due .waits, omega arith);
+    }
+
+pub loop-job-less : need.loop-job-less
+loop-job-less c =
+    let s = c .args .sheet .now in
+    stepped-work (traffic-of s) (s .cycle) 0 (c .in-Some .job) (held (queue-at (c .loop-job .queues) 0)) (held (queue-at (c .take .last .self) 0)) (s .kept) (c .loop-job .inv .1 .0 0 (omega arith) .lined) (c .in-Some .ensures tt .took)
+
+pub loop-job-again : need.loop-job-again
+loop-job-again c =
+    let s = c .args .sheet .now in
+    let x = c .in-Some .job in
+    let step = stepped (traffic-of s) (s .cycle) 0 x (held (queue-at (c .loop-job .queues) 0)) (held (queue-at (c .take .last .self) 0)) (c .loop-job .inv .1 .0 0 (omega arith) .lined) (c .in-Some .ensures tt .took) in
+    (x .arrival,
+     (come-again (traffic-of s) (s .cycle) 0 (c .loop-job .queues) (c .take .last .self) (c .take .result) (c .loop-job .inv .1 .0) (omega arith) (c .take .ensures .took) (c .take .ensures .few) (c .take .ensures .others),
+      (c .try-packet-trials .ensures .tried, step .later)))
+
+pub returns : need.returns
+returns c = subst (λ (k : ℕ). Tallied k (c .loop-job .windows) (c .loop-job .trials .tally)) (c .cycle-cycle .ensures) (c .loop-job .inv .1 .1 .0 .tally)

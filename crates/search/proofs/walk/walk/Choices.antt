@@ -1,0 +1,20 @@
+-- The windows so far, and the packets still to come.
+use mathlib.Core.Path.{_≡_}
+use Prim.Native.Nat.{_-_, _<_}
+use Rattle.std.specs.shelf.Lists.{All}
+use Rattle.sheet.specs.Contents.{traffic-of}
+use Rattle.search.specs.Windows.{last-end, latest}
+use Rattle.search.specs.Queues.{AllCome, queue-at}
+use Rattle.search.specs.Tallies.{Tallied, standing}
+use Rattle.search.proofs.walk.walk.Given as given
+
+abbrev pub Inv-loop-w : given.InvT-loop-w
+Inv-loop-w g l =
+    Tallied (l .cycle) (l .windows) (l .tally)
+    × AllCome (traffic-of (l .sheet)) (l .sheet .cycle) (l .queues)
+    × (queue-at (l .queues) 0 ≡ queue-at (l .entry .queues) 0)
+    × (l .t ≡ last-end 0 (standing (l .windows) (l .tally)))
+    × All (λ w. 0 < w .packet .queue) (standing (l .windows) (l .tally))
+
+abbrev pub μ-loop-w : given.MeasureT-loop-w
+μ-loop-w g l = 1025 - l .tally .windows

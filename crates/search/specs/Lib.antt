@@ -1,0 +1,11 @@
+-- What the contracts of the search say.
+pub mod Serving
+pub mod Windows
+pub mod Drawn
+pub mod Coming
+pub mod Faults
+pub mod Search
+pub mod Queues
+pub mod Tallies
+pub mod Trials
+pub mod Memory
