@@ -5,7 +5,7 @@ use refusal::Refusal;
 use refusal::refusal_text;
 use search::search::search;
 use search::serving::DeadlineMonotonic;
-use search::serving::Monotonic;
+use search::serving::DeadlineMonotonicServes;
 use search::window::Window;
 use sheet::refusals::sheet_refusal;
 use sheet::sheet::Sheet;
@@ -42,7 +42,10 @@ fn drawn(heap: Global, sheet: &Sheet) -> Result<Vec<u8>, AllocError> {
     let mut list = vec![in heap; Entry::ZERO; RECORDS]?;
     let mut windows = vec![in heap; NO_WINDOW; RECORDS]?;
     match search(sheet, &DeadlineMonotonic, list.as_mut_slice(), windows.as_mut_slice()) {
-        Ok(n) => written(heap, &list.as_slice()[0..n]),
+        Ok(n) => {
+            list.truncate(n);
+            written(heap, list.as_slice())
+        }
         Err(fault) => {
             let (code, place, number) = fault.numbers();
             refused(heap, Refusal { code, place, number })
