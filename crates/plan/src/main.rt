@@ -30,7 +30,8 @@ fn run(rt: &LibcRuntime) -> Result<(), AnyError> {
     let heap = rt.alloc();
     let mut text = vec![in heap; 0u8; ENOUGH]?;
     let n = read_input(rt, text.as_mut_slice())?;
-    let answer = plan(heap, &text.as_slice()[0..n])?;
+    text.truncate(n);
+    let answer = plan(heap, text.as_slice())?;
     rt.stdout().write_all(answer.as_slice())?;
     Ok(())
 }

@@ -40,6 +40,14 @@ fn read_text(text: &[u8], flows: &mut Vec<Flow>) -> Result<(Rate, u64), SheetFau
     }
 }
 
+// Takes all flows away.
+fn forget(flows: &mut Vec<Flow>)
+    ensures items { λ _. ⌜ vec-items (now (flows .exit)) ≡ [] ⌝ }
+    ensures len { λ _. ⌜ vec-len (now (flows .exit)) ≡ 0 ⌝ }
+{
+    flows.clear();
+}
+
 impl Sheet {
     // A sheet without flows.
     pub fn new(heap: Global) -> Sheet
@@ -55,7 +63,7 @@ impl Sheet {
         ensures exact { λ r. ⌜ Cases r (λ _. Kept (traffic-of (now (self .exit))) × (now (text .entry) ≡ sheet-text (traffic-of (now (self .exit))))) (λ e. (e ≡ Memory) ⊎ No-sheet (now (text .entry))) ⌝ }
         ensures distinct { λ _. ⌜ One-sheet ⌝ }
     {
-        self.flows.clear();
+        forget(&mut self.flows);
         match read_text(text, &mut self.flows) {
             Ok((rate, cycle)) => {
                 self.rate = rate;
@@ -63,7 +71,7 @@ impl Sheet {
                 Ok(())
             }
             Err(e) => {
-                self.flows.clear();
+                forget(&mut self.flows);
                 self.rate = Rate::Mbit10;
                 self.cycle = 1;
                 Err(e)

@@ -14,7 +14,7 @@ abbrev with-flows : List Flow → Traffic
 with-flows fs = record { rate = Mbit10; flows = fs }
 
 pub ghost-self-in-Err : need.ghost-self-in-Err
-ghost-self-in-Err c = (omega (arith, c .clear-in-Err .ensures .len), (rw (c .clear-in-Err .ensures .items), (rw (c .clear-in-Err .ensures .items) no-cycle, (omega arith, tt))))
+ghost-self-in-Err c = (omega (arith, c .forget-in-Err .ensures .len), (rw (c .forget-in-Err .ensures .items), (rw (c .forget-in-Err .ensures .items) no-cycle, (omega arith, tt))))
 
 pub returns-in-Ok : need.returns-in-Ok
 returns-in-Ok c =
@@ -23,7 +23,7 @@ returns-in-Ok c =
 
 pub returns-in-Err : need.returns-in-Err
 returns-in-Err c = record {
-  cases = (ap with-flows (c .clear-in-Err .ensures .items), c .in-Err .ensures tt);
+  cases = (ap with-flows (c .forget-in-Err .ensures .items), c .in-Err .ensures tt);
   exact = no-sheet (c .args .text .now) (c .in-Err .e) (c .in-Err .ensures tt);
   distinct = one-sheet;
 }
