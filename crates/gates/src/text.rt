@@ -35,8 +35,16 @@ impl WriteFault {
         ensures { λ r. ⌜ r ≡ refusal-of self ⌝ }
     {
         match self {
-            WriteFault::Entries => Refusal { code: 20, place: 0, number: 0 },
-            WriteFault::Memory => Refusal { code: 21, place: 0, number: 0 },
+            WriteFault::Entries => Refusal {
+                code: 20,
+                place: 0,
+                number: 0,
+            },
+            WriteFault::Memory => Refusal {
+                code: 21,
+                place: 0,
+                number: 0,
+            },
         }
     }
 }

@@ -20,7 +20,18 @@ const RECORDS: usize = 1_024;
 const LONGEST_TEXT: usize = 30_720;
 
 // A window of zeros.
-const NO_WINDOW: Window = Window { start: 0, packet: Job { flow: 0, number: 0, queue: 0, arrival: 0, deadline: 0, wire: 0, weight: 0 } };
+const NO_WINDOW: Window = Window {
+    start: 0,
+    packet: Job {
+        flow: 0,
+        number: 0,
+        queue: 0,
+        arrival: 0,
+        deadline: 0,
+        wire: 0,
+        weight: 0,
+    },
+};
 
 // The lines of a refusal.
 fn refused(heap: Global, refusal: Refusal) -> Result<Vec<u8>, AllocError> {
@@ -41,14 +52,26 @@ fn written(heap: Global, list: &[Entry]) -> Result<Vec<u8>, AllocError> {
 fn drawn(heap: Global, sheet: &Sheet) -> Result<Vec<u8>, AllocError> {
     let mut list = vec![in heap; Entry::ZERO; RECORDS]?;
     let mut windows = vec![in heap; NO_WINDOW; RECORDS]?;
-    match search(sheet, &DeadlineMonotonic, list.as_mut_slice(), windows.as_mut_slice()) {
+    match search(
+        sheet,
+        &DeadlineMonotonic,
+        list.as_mut_slice(),
+        windows.as_mut_slice(),
+    ) {
         Ok(n) => {
             list.truncate(n);
             written(heap, list.as_slice())
         }
         Err(fault) => {
             let (code, place, number) = fault.numbers();
-            refused(heap, Refusal { code, place, number })
+            refused(
+                heap,
+                Refusal {
+                    code,
+                    place,
+                    number,
+                },
+            )
         }
     }
 }

@@ -115,12 +115,14 @@ tried-in long n low e more ms ns t p m ok fits q is passed has count few same pu
     let onward : low ≤ m .start = subst (λ (k : ℕ). low ≤ k) (sym (has .start)) (room-from low (p .wire) (drop n ws)) in
     let ends : admitted-end (inserted-at (m .place) w ws) ≡ m .start + p .wire = omega arith in
     let last-is : m .start + p .wire ≡ admitted-end (standing ns (record { windows = more; entries = e })) = sym ends ∙ ap admitted-end (sym (all .0)) in
-    let small : length (drawn 0 (inserted (trial p ws) ws) long) ≤ most-entries = subst (λ (zs : List Window). length (drawn 0 zs long) ≤ most-entries) (sym (tr .there)) (omega arith) in
-    (record {
-      tally = all .1;
-      last = last-is;
-      passed = subst (Passed (max (p .arrival) (m .start + p .wire)) n) (sym (all .0)) (passed-inserted (max (p .arrival) (m .start + p .wire)) n (m .place) w ws (has .onward) (has .within) (passed-later low (max (p .arrival) (m .start + p .wire)) n ws (omega arith) passed));
-    }, all .0 ∙ sym (tr .there) ∙ sym (tried-ok long p ws (tr .in-time) small))
+    let small : length (drawn 0 (inserted (trial p ws) ws) long) ≤ most-entries = subst (λ (zs : List Window). length (drawn 0 zs long) ≤ most-entries) (sym (tr .there)) (omega arith) in (
+      record {
+        tally = all .1;
+        last = last-is;
+        passed = subst (Passed (max (p .arrival) (m .start + p .wire)) n) (sym (all .0)) (passed-inserted (max (p .arrival) (m .start + p .wire)) n (m .place) w ws (has .onward) (has .within) (passed-later low (max (p .arrival) (m .start + p .wire)) n ws (omega arith) passed));
+      },
+      all .0 ∙ sym (tr .there) ∙ sym (tried-ok long p ws (tr .in-time) small),
+    )
 
 pub length-inserted-at : (i : ℕ) (w : Window) (ws : List Window) → i ≤ length ws → length (inserted-at i w ws) ≡ length ws + 1
 length-inserted-at i w ws h =

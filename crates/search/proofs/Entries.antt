@@ -104,11 +104,12 @@ drawn-more a b i n m k ws whole l₀ l₁ l₂ l₃ h inv same p q =
     let step : drawn a (drop i ws) b ≡ closed a (w .start) (entry w ∷ rest) = at-drop-more (λ zs. drawn a zs b) ws i no-window h in
     let front : take k l₃ ≡ (take n l₁ ++ closed a (w .start) []) ++ (entry w ∷ []) = q .front ∙ ap (λ (zs : List Entry). zs ++ (entry w ∷ [])) (p .front) in
     let join : ((take n l₁ ++ closed a (w .start) []) ++ (entry w ∷ [])) ++ rest ≡ take n l₁ ++ closed a (w .start) (entry w ∷ rest) =
-          append-assoc (take n l₁ ++ closed a (w .start) []) (entry w ∷ []) rest ∙ append-assoc (take n l₁) (closed a (w .start) []) (entry w ∷ rest) ∙ ap (λ (zs : List Entry). take n l₁ ++ zs) (closed-append a (w .start) (entry w ∷ rest)) in
+    append-assoc (take n l₁ ++ closed a (w .start) []) (entry w ∷ []) rest ∙ append-assoc (take n l₁) (closed a (w .start) []) (entry w ∷ rest) ∙ ap (λ (zs : List Entry). take n l₁ ++ zs) (closed-append a (w .start) (entry w ∷ rest)) in
     let mk : m ≤ k = omega (arith, q .count) in
-    let nk : n ≤ k = omega (arith, p .count, q .count) in
-    (ap (λ (zs : List Entry). zs ++ rest) front ∙ join ∙ ap (λ (zs : List Entry). take n l₁ ++ zs) (sym step) ∙ inv,
-     q .behind ∙ drop-later m k l₂ l₁ mk (p .behind) ∙ drop-later n k l₁ l₀ nk same)
+    let nk : n ≤ k = omega (arith, p .count, q .count) in (
+      ap (λ (zs : List Entry). zs ++ rest) front ∙ join ∙ ap (λ (zs : List Entry). take n l₁ ++ zs) (sym step) ∙ inv,
+      q .behind ∙ drop-later m k l₂ l₁ mk (p .behind) ∙ drop-later n k l₁ l₀ nk same,
+    )
 
 -- the end of the drawing
 pub drawn-all : (a b i n m : ℕ) (ws : List Window) (whole l₀ l₁ l₂ : List Entry) → length ws ≤ i → n ≤ length l₁ →

@@ -106,18 +106,20 @@ pub inserted-tally : (long i e more : ℕ) (ms ns : List Window) (t : Tally) (w 
 inserted-tally long i e more ms ns t w ok fits in-time front back count few same put =
     let ws = standing ms t in
     let is : standing ns (record { windows = more; entries = e }) ≡ inserted-at i w ws =
-          ap (λ (k : ℕ). take k ns) (put .count) ∙ put .holds ∙ placed-last-there 0 latest i w ws (ok .apart) front (start-before w (drop i ws) (fits .some-wire) back) in
+    ap (λ (k : ℕ). take k ns) (put .count) ∙ put .holds ∙ placed-last-there 0 latest i w ws (ok .apart) front (start-before w (drop i ws) (fits .some-wire) back) in
     let room = put .room in
     let n = put .count in
     let early = fits .early in
-    let one : Fits w = record { early = omega arith; queued = fits .queued; numbered = fits .numbered } in
-    (is, record {
-      within = omega arith;
-      fit = subst (All Fits) (sym is) (all-inserted Fits i w ws one (ok .fit));
-      apart = subst (λ (zs : List Window). Apart 0 zs latest) (sym is) (apart-inserted 0 latest i w ws (ok .apart) front back);
-      count = count ∙ ap (λ (zs : List Window). length (drawn 0 zs long)) (sym is);
-      few = few;
-    })
+    let one : Fits w = record { early = omega arith; queued = fits .queued; numbered = fits .numbered } in (
+      is,
+      record {
+        within = omega arith;
+        fit = subst (All Fits) (sym is) (all-inserted Fits i w ws one (ok .fit));
+        apart = subst (λ (zs : List Window). Apart 0 zs latest) (sym is) (apart-inserted 0 latest i w ws (ok .apart) front back);
+        count = count ∙ ap (λ (zs : List Window). length (drawn 0 zs long)) (sym is);
+        few = few;
+      },
+    )
 
 -- at the end
 pub inserted-end : (n : ℕ) (w : Window) (ws : List Window) → length ws ≤ n → inserted-at n w ws ≡ ws ++ (w ∷ [])
@@ -139,9 +141,9 @@ placed-is long ws zs w e =
     ⊎-elim
     (λ late. let h : Err (Late (w .packet .flow) (w .packet .number)) ≡ Ok zs = sym (placed-late long ws w (ltb-true (w .packet .deadline) (end w) late)) ∙ e in cc)
     (λ early.
-      let to = ltb-false (w .packet .deadline) (end w) early in
-      ⊎-elim
-      (λ big. let h : Err (TooLong (w .packet .flow) (w .packet .number)) ≡ Ok zs = sym (placed-long long ws w to (ltb-true most-entries (length (drawn 0 (ws ++ (w ∷ [])) long)) big)) ∙ e in cc)
-      (λ few. let h : Ok (ws ++ (w ∷ [])) ≡ Ok zs = sym (placed-ok long ws w to (ltb-false most-entries (length (drawn 0 (ws ++ (w ∷ [])) long)) few)) ∙ e in cc)
-      (cases-bool (ltb most-entries (length (drawn 0 (ws ++ (w ∷ [])) long)))))
+    let to = ltb-false (w .packet .deadline) (end w) early in
+    ⊎-elim
+    (λ big. let h : Err (TooLong (w .packet .flow) (w .packet .number)) ≡ Ok zs = sym (placed-long long ws w to (ltb-true most-entries (length (drawn 0 (ws ++ (w ∷ [])) long)) big)) ∙ e in cc)
+    (λ few. let h : Ok (ws ++ (w ∷ [])) ≡ Ok zs = sym (placed-ok long ws w to (ltb-false most-entries (length (drawn 0 (ws ++ (w ∷ [])) long)) few)) ∙ e in cc)
+    (cases-bool (ltb most-entries (length (drawn 0 (ws ++ (w ∷ [])) long)))))
     (cases-bool (ltb (w .packet .deadline) (end w)))

@@ -80,10 +80,10 @@ pub record Mandatory (s : Traffic) (long : ℕ) (x : Job) : Type 0 where
 pub firsts-mandatory : (s : Traffic) (long : ℕ) (qs : Queues) → AllCome s long qs → All (Mandatory s long) (firsts (nexts qs) 7)
 firsts-mandatory s long qs come =
     firsts-all (Mandatory s long) (nexts qs) 7 (λ q a b.
-      let c = come q (omega arith) in
-      all-map (Mandatory s long) packet-of (held (queue-at qs q))
-      (all-weaker (λ (n : Next). Due s long q (n .packet)) (λ (n : Next). Mandatory s long (n .packet))
-        (λ n d. let is = d .waits in record { due = subst (λ (r : ℕ). Due s long r (n .packet)) (sym is) d; some = omega arith; most = omega arith }) (held (queue-at qs q)) (c .lined .due)))
+    let c = come q (omega arith) in
+    all-map (Mandatory s long) packet-of (held (queue-at qs q))
+    (all-weaker (λ (n : Next). Due s long q (n .packet)) (λ (n : Next). Mandatory s long (n .packet))
+    (λ n d. let is = d .waits in record { due = subst (λ (r : ℕ). Due s long r (n .packet)) (sym is) d; some = omega arith; most = omega arith }) (held (queue-at qs q)) (c .lined .due)))
 
 -- the next window of the walk
 pub record NextFacts (s : Traffic) (long t : ℕ) (w : Window) : Type 0 where

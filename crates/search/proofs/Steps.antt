@@ -37,7 +37,7 @@ once-placed-last x (y ∷ ys) other once =
     ⊎-elim
     (λ e. subst Once (sym (ap (λ (t : Bool). cond t (x ∷ (y ∷ ys)) (y ∷ placed-last next-before x ys)) e)) (other, once))
     (λ e. subst Once (sym (ap (λ (t : Bool). cond t (x ∷ (y ∷ ys)) (y ∷ placed-last next-before x ys)) e))
-      (all-placed-last (OtherFlow y) next-before x ys (λ same. other .0 (sym same)) (once .0), once-placed-last x ys (other .1) (once .1)))
+    (all-placed-last (OtherFlow y) next-before x ys (λ same. other .0 (sym same)) (once .0), once-placed-last x ys (other .1) (once .1)))
     (cases-bool (before-each next-before x (y ∷ ys)))
 
 pub order-placed-last : (x : Next) (xs : List Next) → in-order next-before xs ≡ true → in-order next-before (placed-last next-before x xs) ≡ true
@@ -71,9 +71,10 @@ built-lined s long q zero ns is = subst (λ (ms : List Next). Lined s long q ms 
 built-lined s long q (suc i) ns (ms, (built, joins)) =
     let before = built-lined s long q i ms built in
     let low : All (λ (m : Next). m .packet .flow ≤ suc i) ms = all-weaker (λ (m : Next). m .packet .flow ≤ i) (λ (m : Next). m .packet .flow ≤ suc i) (λ m h. omega arith) ms (before .1) in
-    let other : All (NotOf (suc i)) ms = all-weaker (λ (m : Next). m .packet .flow ≤ i) (NotOf (suc i)) (λ m h e. omega arith) ms (before .1) in
-    (joins-lined s long q (suc i) 1 ms ns (before .0) other joins,
-     joins-all (λ (m : Next). m .packet .flow ≤ suc i) s long q (suc i) 1 ms ns low (λ y due. let e = due .same-flow in omega arith) joins)
+    let other : All (NotOf (suc i)) ms = all-weaker (λ (m : Next). m .packet .flow ≤ i) (NotOf (suc i)) (λ m h e. omega arith) ms (before .1) in (
+      joins-lined s long q (suc i) 1 ms ns (before .0) other joins,
+      joins-all (λ (m : Next). m .packet .flow ≤ suc i) s long q (suc i) 1 ms ns low (λ y due. let e = due .same-flow in omega arith) joins,
+    )
 
 -- a packet that is not before another does not arrive before it
 pub not-sooner : (x y : Job) → queue-before y x ≡ false → x .arrival ≤ y .arrival

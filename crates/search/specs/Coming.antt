@@ -57,7 +57,6 @@ pub record NextDue (s : Traffic) (long q i j : ℕ) (x : Job) : Type 0 where
 abbrev pub NoneDue : Traffic → ℕ → ℕ → ℕ → ℕ → Type 0
 NoneDue s long q i j = (n : ℕ) → j ≤ n → waits-in q (flow-at (s .flows) i) n ≡ true → long ≤ arrival (flow-at (s .flows) i) n
 
-
 -- the next packets that a queue holds
 abbrev pub held : Queue → List Next
 held c = take (c .len) (c .next)

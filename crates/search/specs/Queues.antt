@@ -15,7 +15,6 @@ use Rattle.search.specs.declared.queues.Queues.{Queues}
 use Rattle.search.specs.Coming.{Built, Stepped, Comes, held, packet-of}
 use Rattle.search.specs.Search.{least-arrival, sooner}
 
-
 -- stands where no queue is
 abbrev pub no-queue : Queue
 no-queue = record { next = []; len = 0 }

@@ -93,11 +93,25 @@ fn next_job(sheet: &Sheet, index: u8, from: u64, queue: u8) -> Option<Job>
     let flow = sheet.flows()[index as usize - 1];
     let number = next_number(&flow, from, queue)?;
     let job = job_of(sheet.rate(), index, &flow, number)?;
-    if job.arrival < sheet.cycle() { Some(job) } else { None }
+    if job.arrival < sheet.cycle() {
+        Some(job)
+    } else {
+        None
+    }
 }
 
 // Stands where no packet is.
-const NO_NEXT: Next = Next { packet: Job { flow: 0, number: 0, queue: 0, arrival: 0, deadline: 0, wire: 0, weight: 0 } };
+const NO_NEXT: Next = Next {
+    packet: Job {
+        flow: 0,
+        number: 0,
+        queue: 0,
+        arrival: 0,
+        deadline: 0,
+        wire: 0,
+        weight: 0,
+    },
+};
 
 // The packets of one queue that are still to come: the next one of each flow, in queue order.
 #[derive(Clone, Copy)]
@@ -111,7 +125,10 @@ impl Queue {
     pub fn none() -> Queue
         ensures { λ r. ⌜ (r .len ≡ 0) × (held r ≡ []) ⌝ }
     {
-        Queue { next: [NO_NEXT; 64], len: 0 }
+        Queue {
+            next: [NO_NEXT; 64],
+            len: 0,
+        }
     }
 
     // A flow's next packet from a number on joins, if it has one.

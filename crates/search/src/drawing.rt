@@ -17,14 +17,22 @@ fn end_before(windows: &[Window], place: usize) -> u64
     requires within { ⌜ place ≤ length (now windows) ⌝ }
     ensures { λ r. ⌜ r ≡ last-end 0 (take place (now (windows .entry))) ⌝ }
 {
-    if place == 0 { 0 } else { windows[place - 1].end() }
+    if place == 0 {
+        0
+    } else {
+        windows[place - 1].end()
+    }
 }
 
 // The start of the window at a place, or the end of the cycle.
 fn start_at(windows: &[Window], place: usize, cycle: u64) -> u64
     ensures { λ r. ⌜ r ≡ first-start (drop place (now (windows .entry))) cycle ⌝ }
 {
-    if place < windows.len() { windows[place].start } else { cycle }
+    if place < windows.len() {
+        windows[place].start
+    } else {
+        cycle
+    }
 }
 
 // One if the stretch from `a` to `b` is not empty.
@@ -35,7 +43,13 @@ fn stretch(a: u64, b: u64) -> usize
 }
 
 // How many entries the list has with one more window at a place, from those that it has without it.
-pub fn entries_with(windows: &[Window], place: usize, w: &Window, cycle: u64, entries: usize) -> usize
+pub fn entries_with(
+    windows: &[Window],
+    place: usize,
+    w: &Window,
+    cycle: u64,
+    entries: usize,
+) -> usize
     requires fit { ⌜ All Fits (now windows) × Fits (now w) ⌝ }
     requires within { ⌜ place ≤ length (now windows) ⌝ }
     requires count { ⌜ (entries ≡ length (drawn 0 (now windows) cycle)) × (entries ≤ 1024) ⌝ }
@@ -54,9 +68,19 @@ fn entry_of(w: &Window) -> Entry
     let p = w.packet;
     let gates = 1 << p.queue;
     if p.queue == 0 {
-        Entry { gates, interval: p.wire, flow: p.flow, number: p.number as u32 }
+        Entry {
+            gates,
+            interval: p.wire,
+            flow: p.flow,
+            number: p.number as u32,
+        }
     } else {
-        Entry { gates, interval: p.wire, flow: 0, number: 0 }
+        Entry {
+            gates,
+            interval: p.wire,
+            flow: 0,
+            number: 0,
+        }
     }
 }
 
@@ -76,7 +100,16 @@ fn close(list: &mut [Entry], n: usize, a: u64, b: u64) -> usize
     ensures { λ r. ⌜ Wrote (closed a b []) n r (now (list .entry)) (now (list .exit)) ⌝ }
 {
     if a < b {
-        write(list, n, Entry { gates: 0, interval: (b - a) as u32, flow: 0, number: 0 })
+        write(
+            list,
+            n,
+            Entry {
+                gates: 0,
+                interval: (b - a) as u32,
+                flow: 0,
+                number: 0,
+            },
+        )
     } else {
         n
     }

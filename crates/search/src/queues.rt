@@ -44,7 +44,11 @@ fn sooner<O: ServingOrder>(order: &O, t: u64, best: Option<Job>, job: Option<Job
     }
     match best {
         None => Some(x),
-        Some(y) => if order.is_before(&y, &x) { Some(y) } else { Some(x) },
+        Some(y) => if order.is_before(&y, &x) {
+            Some(y)
+        } else {
+            Some(x)
+        },
     }
 }
 

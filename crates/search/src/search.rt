@@ -17,10 +17,26 @@ use sheet::sheet::Sheet;
 use traffic::packet::Job;
 
 // An entry of zeros.
-const NO_ENTRY: Entry = Entry { gates: 0, interval: 0, flow: 0, number: 0 };
+const NO_ENTRY: Entry = Entry {
+    gates: 0,
+    interval: 0,
+    flow: 0,
+    number: 0,
+};
 
 // A window of zeros.
-const NO_WINDOW: Window = Window { start: 0, packet: Job { flow: 0, number: 0, queue: 0, arrival: 0, deadline: 0, wire: 0, weight: 0 } };
+const NO_WINDOW: Window = Window {
+    start: 0,
+    packet: Job {
+        flow: 0,
+        number: 0,
+        queue: 0,
+        arrival: 0,
+        deadline: 0,
+        wire: 0,
+        weight: 0,
+    },
+};
 
 // Zero from a place on.
 fn clear_entries(list: &mut [Entry], from: usize)
@@ -44,7 +60,12 @@ fn clear_windows(windows: &mut [Window])
 }
 
 // Walk, trials and drawing.
-fn planned<O: ServingOrder>(sheet: &Sheet, order: &O, list: &mut [Entry], windows: &mut [Window]) -> Result<usize, SearchFault>
+fn planned<O: ServingOrder>(
+    sheet: &Sheet,
+    order: &O,
+    list: &mut [Entry],
+    windows: &mut [Window],
+) -> Result<usize, SearchFault>
     requires memory { ⌜ (1024 ≤ length (now list)) × (1024 ≤ length (now windows)) ⌝ }
     ensures { λ r. ⌜ Cases r (λ n. n ≤ 1024) (λ _. Unit {0}) ⌝ }
 {
@@ -57,8 +78,12 @@ fn planned<O: ServingOrder>(sheet: &Sheet, order: &O, list: &mut [Entry], window
 
 // Searches a gate list for the sheet under a serving order, and answers its length. The list is then at the start of the
 // list memory, and all else of the lent memory is zero.
-pub fn search<O: ServingOrder>(sheet: &Sheet, order: &O, list: &mut [Entry], windows: &mut [Window]) -> Result<usize, SearchFault>
-{
+pub fn search<O: ServingOrder>(
+    sheet: &Sheet,
+    order: &O,
+    list: &mut [Entry],
+    windows: &mut [Window],
+) -> Result<usize, SearchFault> {
     if sheet.flows().len() == 0 {
         return Err(SearchFault::EmptySheet);
     }

@@ -80,16 +80,38 @@ fn try_packet(windows: &mut [Window], so_far: Trials, job: Job, cycle: u64) -> T
     let low = job.arrival.max(last);
     let passed = windows_passed(&windows[0..n], so_far.passed, low);
     let Some(room) = room_for(&windows[0..n], passed, low, &job) else {
-        return Trials { tally, last, passed };
+        return Trials {
+            tally,
+            last,
+            passed,
+        };
     };
-    let w = Window { start: room.start, packet: job };
+    let w = Window {
+        start: room.start,
+        packet: job,
+    };
     let entries = entries_with(&windows[0..n], room.place, &w, cycle, tally.entries);
     if entries > MOST_ENTRIES {
-        return Trials { tally, last, passed };
+        return Trials {
+            tally,
+            last,
+            passed,
+        };
     }
     match put(windows, n, w) {
-        Ok(more) => Trials { tally: Tally { windows: more, entries }, last: w.end(), passed },
-        Err(_) => Trials { tally, last, passed },
+        Ok(more) => Trials {
+            tally: Tally {
+                windows: more,
+                entries,
+            },
+            last: w.end(),
+            passed,
+        },
+        Err(_) => Trials {
+            tally,
+            last,
+            passed,
+        },
     }
 }
 
@@ -102,7 +124,11 @@ pub fn admit(sheet: &Sheet, queues: &mut Queues, windows: &mut [Window], tally: 
     ensures { λ r. ⌜ Tallied (now (sheet .entry) .cycle) (now (windows .exit)) r ⌝ }
 {
     let cycle = sheet.cycle();
-    let mut trials = Trials { tally, last: 0, passed: 0 };
+    let mut trials = Trials {
+        tally,
+        last: 0,
+        passed: 0,
+    };
     while let Some(job) = queues.take(sheet, 0) {
         trials = try_packet(windows, trials, job, cycle);
     }

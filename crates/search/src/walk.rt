@@ -50,7 +50,10 @@ fn place(windows: &mut [Window], tally: Tally, w: Window, cycle: u64) -> Result<
         return Err(SearchFault::TooLong(p.flow, p.number));
     }
     match put(windows, n, w) {
-        Ok(more) => Ok(Tally { windows: more, entries }),
+        Ok(more) => Ok(Tally {
+            windows: more,
+            entries,
+        }),
         Err(_) => Err(SearchFault::TooLong(p.flow, p.number)),
     }
 }
@@ -60,14 +63,25 @@ fn empty_tally(cycle: u64) -> Tally
     ensures { λ r. ⌜ (r .windows ≡ 0) × (r .entries ≡ cond (ltb 0 cycle) 1 0) ⌝ }
 {
     if cycle > 0 {
-        Tally { windows: 0, entries: 1 }
+        Tally {
+            windows: 0,
+            entries: 1,
+        }
     } else {
-        Tally { windows: 0, entries: 0 }
+        Tally {
+            windows: 0,
+            entries: 0,
+        }
     }
 }
 
 // Gives each mandatory packet its window.
-pub fn walk<O: ServingOrder>(sheet: &Sheet, order: &O, queues: &mut Queues, windows: &mut [Window]) -> Result<Tally, SearchFault>
+pub fn walk<O: ServingOrder>(
+    sheet: &Sheet,
+    order: &O,
+    queues: &mut Queues,
+    windows: &mut [Window],
+) -> Result<Tally, SearchFault>
     requires come { ⌜ AllCome (traffic-of (now sheet)) (now sheet .cycle) (now queues) ⌝ }
     requires memory { ⌜ 1024 ≤ length (now windows) ⌝ }
     ensures tallied { λ r. ⌜ Cases r (λ t. Tallied (now (sheet .entry) .cycle) (now (windows .exit)) t × (admitted-end (standing (now (windows .exit)) t) ≡ 0)) (λ _. Unit {0}) ⌝ }

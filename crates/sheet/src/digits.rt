@@ -29,16 +29,28 @@ pub(crate) fn number(line: u32, bytes: &[u8]) -> Result<u64, DigitFault>
     ensures { λ r. ⌜ r ≡ on-line line (read-number (now (bytes .entry))) ⌝ }
 {
     if bytes.len() == 0 {
-        return Err(DigitFault { line, cause: Cause::Empty });
+        return Err(DigitFault {
+            line,
+            cause: Cause::Empty,
+        });
     }
     if bytes.len() > 10 {
-        return Err(DigitFault { line, cause: Cause::TooLong });
+        return Err(DigitFault {
+            line,
+            cause: Cause::TooLong,
+        });
     }
     if bytes.len() > 1 && bytes[0] == b'0' {
-        return Err(DigitFault { line, cause: Cause::LeadingZero });
+        return Err(DigitFault {
+            line,
+            cause: Cause::LeadingZero,
+        });
     }
     match decimal(bytes) {
         Some(n) => Ok(n),
-        None => Err(DigitFault { line, cause: Cause::NoDigit }),
+        None => Err(DigitFault {
+            line,
+            cause: Cause::NoDigit,
+        }),
     }
 }

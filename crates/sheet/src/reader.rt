@@ -107,7 +107,15 @@ impl<'a> Reader<'a> {
         let miss = self.number(Key::Miss, 0, 19)?;
         let among = self.number(Key::Of, miss + 1, 20)?;
         let weight = self.number(Key::Weight, 0, 255)?;
-        Ok(Flow { queue, octets, period, deadline, miss: miss as u8, among: among as u8, weight: weight as u8 })
+        Ok(Flow {
+            queue,
+            octets,
+            period,
+            deadline,
+            miss: miss as u8,
+            among: among as u8,
+            weight: weight as u8,
+        })
     }
 
     // Does one more flow begin behind so many?

@@ -18,7 +18,6 @@ then-chained a b c p q r h x y = grind (arith, tells)
 pub then-decides : (a b : ℕ) (p q : Bool) → (a ≡ b → p ≡ not q) → then-by a b p ≡ not (then-by b a q)
 then-decides a b p q h = grind (arith, tells)
 
-
 -- the same with the greater first
 pub then-chained-down : (a b c : ℕ) (p q r : Bool) → (p ≡ true → q ≡ true → r ≡ true) → then-by b a p ≡ true → then-by c b q ≡ true → then-by c a r ≡ true
 then-chained-down a b c p q r h x y = grind (arith, tells)

@@ -29,15 +29,15 @@ pub queue-order : StrictOrder queue-before JobsDiffer
 queue-order = record {
   never = λ x. then-never (x .arrival) _ (then-never (lightness x) _ (then-never (x .deadline) _ (then-never (x .wire) _ (last-never (x .flow)))));
   chained = λ x y z.
-    then-chained (x .arrival) (y .arrival) (z .arrival) _ _ _
-    (then-chained (lightness x) (lightness y) (lightness z) _ _ _
-    (then-chained (x .deadline) (y .deadline) (z .deadline) _ _ _
-    (then-chained-down (x .wire) (y .wire) (z .wire) _ _ _ (last-chained (x .flow) (y .flow) (z .flow)))));
+      then-chained (x .arrival) (y .arrival) (z .arrival) _ _ _
+      (then-chained (lightness x) (lightness y) (lightness z) _ _ _
+      (then-chained (x .deadline) (y .deadline) (z .deadline) _ _ _
+      (then-chained-down (x .wire) (y .wire) (z .wire) _ _ _ (last-chained (x .flow) (y .flow) (z .flow)))));
   decides = λ x y d.
-    then-decides (x .arrival) (y .arrival) _ _ (λ e.
-    then-decides (lightness x) (lightness y) _ _ (λ _.
-    then-decides (x .deadline) (y .deadline) _ _ (λ _.
-    then-decides (y .wire) (x .wire) _ _ (λ _. last-decides (x .flow) (y .flow) (other-flow (x .flow) (y .flow) (x .arrival) (y .arrival) d e)))));
+      then-decides (x .arrival) (y .arrival) _ _ (λ e.
+      then-decides (lightness x) (lightness y) _ _ (λ _.
+      then-decides (x .deadline) (y .deadline) _ _ (λ _.
+      then-decides (y .wire) (x .wire) _ _ (λ _. last-decides (x .flow) (y .flow) (other-flow (x .flow) (y .flow) (x .arrival) (y .arrival) d e)))));
 }
 
 pub delivery-order : StrictOrder delivered-before PacketsDiffer

@@ -37,6 +37,18 @@ pub fn job_of(rate: Rate, index: u8, flow: &Flow, number: u64) -> Option<Job>
 {
     let arrival = number.saturating_sub(1).checked_mul(flow.period as u64)?;
     let deadline = arrival.checked_add(flow.deadline as u64)?;
-    let queue = if is_mandatory(flow, number) { flow.queue } else { 0 };
-    Some(Job { flow: index, number, queue, arrival, deadline, wire: wire_time(rate, flow.octets), weight: flow.weight })
+    let queue = if is_mandatory(flow, number) {
+        flow.queue
+    } else {
+        0
+    };
+    Some(Job {
+        flow: index,
+        number,
+        queue,
+        arrival,
+        deadline,
+        wire: wire_time(rate, flow.octets),
+        weight: flow.weight,
+    })
 }

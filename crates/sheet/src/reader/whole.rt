@@ -38,7 +38,10 @@ pub(crate) fn read_lines(text: &[u8], flows: &mut Vec<Flow>) -> Result<Rate, She
     requires { ⌜ vec-items (now flows) ≡ [] ⌝ }
     ensures { λ r. ⌜ Cases r (λ v. (lines-of (now (text .entry)) ≡ Ok (record { rate = v; flows = vec-items (now (flows .exit)) })) × (vec-len (now (flows .exit)) ≤ 64) × (all-kept v (vec-items (now (flows .exit))) ≡ true)) (λ e. (e ≡ Memory) ⊎ (in-sheet (lines-of (now (text .entry))) ≡ Err e)) ⌝ }
 {
-    let mut reader = Reader { rest: text, line: 1 };
+    let mut reader = Reader {
+        rest: text,
+        line: 1,
+    };
     let rate = reader.rate()?;
     reader.flows(rate, flows)?;
     if reader.rest.len() > 0 {

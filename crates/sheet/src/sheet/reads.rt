@@ -53,7 +53,11 @@ impl Sheet {
     pub fn new(heap: Global) -> Sheet
         ensures { λ r. ⌜ traffic-of r ≡ no-traffic ⌝ }
     {
-        Sheet { rate: Rate::Mbit10, flows: Vec::new(heap), cycle: 1 }
+        Sheet {
+            rate: Rate::Mbit10,
+            flows: Vec::new(heap),
+            cycle: 1,
+        }
     }
 
     // Reads a text; refused, it leaves the sheet without flows. A text is read exactly when it is the text of a sheet

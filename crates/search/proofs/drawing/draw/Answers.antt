@@ -48,13 +48,16 @@ loop-w-again c =
     let l₂ = c .close-n .last .list in
     let l₃ = c .write-n .last .list in
     let put : Wrote (entry w ∷ []) m k l₂ l₃ = subst (λ (e : Entry). Wrote (e ∷ []) m k l₂ l₃) (c .entry-of .ensures) (c .write-n .ensures) in
-    let more = drawn-more (c .loop-w .at) (c .args .cycle) i (c .loop-w .n) m k ws (drawn 0 ws (c .args .cycle)) (c .args .list .now) (c .loop-w .list) l₂ l₃ (c .loop-w-test .taken) (c .loop-w .inv .0) (c .loop-w .inv .1) (c .close-n .ensures) put in
-    (ap (λ (t : ℕ). take k l₃ ++ drawn t (drop (i + 1) ws) (c .args .cycle)) (c .end-at .ensures) ∙ more .0, more .1, let step : drawn (c .loop-w .at) (drop i ws) (c .args .cycle) ≡ closed (c .loop-w .at) (w .start) (entry w ∷ drawn (end w) (drop (i + 1) ws) (c .args .cycle)) = at-drop-more (λ zs. drawn (c .loop-w .at) zs (c .args .cycle)) ws i no-window (c .loop-w-test .taken) in
-      let room = left-room (c .loop-w .n) (c .loop-w .list) _ _ (c .loop-w .inv .2) (c .loop-w .inv .0) in
-      let long = length-closed (c .loop-w .at) (w .start) (entry w ∷ drawn (end w) (drop (i + 1) ws) (c .args .cycle)) in
-      let short = length-closed (c .loop-w .at) (w .start) [] in
-      let all = ap length step in
-      omega (arith, c .pre .room, c .loop-w .kept .list, c .close-n .kept .list, c .close-n .ensures .count, c .write-n .kept .list, c .write-n .ensures .count))
+    let more = drawn-more (c .loop-w .at) (c .args .cycle) i (c .loop-w .n) m k ws (drawn 0 ws (c .args .cycle)) (c .args .list .now) (c .loop-w .list) l₂ l₃ (c .loop-w-test .taken) (c .loop-w .inv .0) (c .loop-w .inv .1) (c .close-n .ensures) put in (
+      ap (λ (t : ℕ). take k l₃ ++ drawn t (drop (i + 1) ws) (c .args .cycle)) (c .end-at .ensures) ∙ more .0,
+      more .1,
+      let step : drawn (c .loop-w .at) (drop i ws) (c .args .cycle) ≡ closed (c .loop-w .at) (w .start) (entry w ∷ drawn (end w) (drop (i + 1) ws) (c .args .cycle)) = at-drop-more (λ zs. drawn (c .loop-w .at) zs (c .args .cycle)) ws i no-window (c .loop-w-test .taken) in
+          let room = left-room (c .loop-w .n) (c .loop-w .list) _ _ (c .loop-w .inv .2) (c .loop-w .inv .0) in
+          let long = length-closed (c .loop-w .at) (w .start) (entry w ∷ drawn (end w) (drop (i + 1) ws) (c .args .cycle)) in
+          let short = length-closed (c .loop-w .at) (w .start) [] in
+          let all = ap length step in
+          omega (arith, c .pre .room, c .loop-w .kept .list, c .close-n .kept .list, c .close-n .ensures .count, c .write-n .kept .list, c .write-n .ensures .count),
+    )
 
 pub entry-of-requires : need.entry-of-requires
 entry-of-requires c κs = all-getD Fits (c .args .windows .now) (c .loop-w .w-index) no-window (c .loop-w-test .taken) (c .pre .fit .0)

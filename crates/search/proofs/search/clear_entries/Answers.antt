@@ -21,10 +21,12 @@ loop-i-again c =
     let from = c .args .from in
     let front = take from (c .args .list .now) in
     let low = c .loop-i .inv .1 in
-    let more : i - from + 1 ≡ i + 1 - from = omega arith in
-    (take-more-set (c .loop-i .list) i no-entry (c .loop-i-test .taken) ∙ ap (λ (zs : List Entry). zs ++ (no-entry ∷ [])) (c .loop-i .inv .0) ∙ append-assoc front (replicate (i - from) no-entry) (no-entry ∷ [])
-       ∙ ap (λ (zs : List Entry). front ++ zs) (replicate-more (i - from) no-entry ∙ ap (λ (k : ℕ). replicate k no-entry) more),
-     omega arith, search needs)
+    let more : i - from + 1 ≡ i + 1 - from = omega arith in (
+      take-more-set (c .loop-i .list) i no-entry (c .loop-i-test .taken) ∙ ap (λ (zs : List Entry). zs ++ (no-entry ∷ [])) (c .loop-i .inv .0) ∙ append-assoc front (replicate (i - from) no-entry) (no-entry ∷ [])
+          ∙ ap (λ (zs : List Entry). front ++ zs) (replicate-more (i - from) no-entry ∙ ap (λ (k : ℕ). replicate k no-entry) more),
+      omega arith,
+      search needs,
+    )
 
 pub returns : need.returns
 returns c =

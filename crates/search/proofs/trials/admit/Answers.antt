@@ -59,10 +59,13 @@ pub loop-job-again : need.loop-job-again
 loop-job-again c =
     let s = c .args .sheet .now in
     let x = c .in-Some .job in
-    let step = stepped (traffic-of s) (s .cycle) 0 x (held (queue-at (c .loop-job .queues) 0)) (held (queue-at (c .take .last .self) 0)) (c .loop-job .inv .1 .0 0 (omega arith) .lined) (c .in-Some .ensures tt .took) in
-    (x .arrival,
-     (come-again (traffic-of s) (s .cycle) 0 (c .loop-job .queues) (c .take .last .self) (c .take .result) (c .loop-job .inv .1 .0) (omega arith) (c .take .ensures .took) (c .take .ensures .few) (c .take .ensures .others),
-      (c .try-packet-trials .ensures .tried, step .later)))
+    let step = stepped (traffic-of s) (s .cycle) 0 x (held (queue-at (c .loop-job .queues) 0)) (held (queue-at (c .take .last .self) 0)) (c .loop-job .inv .1 .0 0 (omega arith) .lined) (c .in-Some .ensures tt .took) in (
+      x .arrival,
+      (
+        come-again (traffic-of s) (s .cycle) 0 (c .loop-job .queues) (c .take .last .self) (c .take .result) (c .loop-job .inv .1 .0) (omega arith) (c .take .ensures .took) (c .take .ensures .few) (c .take .ensures .others),
+        (c .try-packet-trials .ensures .tried, step .later),
+      ),
+    )
 
 pub returns : need.returns
 returns c = subst (λ (k : ℕ). Tallied k (c .loop-job .windows) (c .loop-job .trials .tally)) (c .cycle-cycle .ensures) (c .loop-job .inv .1 .1 .0 .tally)

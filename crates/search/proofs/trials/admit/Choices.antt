@@ -11,8 +11,8 @@ abbrev pub Inv-loop-job : given.InvT-loop-job
 Inv-loop-job l =
     (a : ℕ)
     × (AllCome (traffic-of (l .sheet)) (l .sheet .cycle) (l .queues)
-      × (Tried (l .cycle) a (l .windows) (l .trials)
-      × All (λ n. a ≤ n .packet .arrival) (held (queue-at (l .queues) 0))))
+    × (Tried (l .cycle) a (l .windows) (l .trials)
+    × All (λ n. a ≤ n .packet .arrival) (held (queue-at (l .queues) 0))))
 
 abbrev pub μ-loop-job : given.MeasureT-loop-job
 μ-loop-job l = work (l .sheet .cycle) (held (queue-at (l .queues) 0))

@@ -24,17 +24,17 @@ returns-then-place-windows c =
     let in-time = c .loop-start-test .taken in
     let early = c .pre .fit .1 .early in
     elim (c .then-place-windows .came) [
-      then-place-windows·by·then-place-windows w ↦
-        let past = w .if-place-windows .taken in
-        let last : room start e (drop place ws) ≡ start = at-drop-all (room start e) ws place past in
-        let none : first-start (drop place ws) latest ≡ latest = at-drop-all (λ zs. first-start zs latest) ws place past in
-        record { start = sym last ∙ c .loop-start .inv .0; in-time = in-time; within = c .loop-start .inv .2; front = c .loop-start .inv .1; back = omega arith; onward = c .loop-start .inv .3 }
-    | then-place-windows·by·else-place-windows·then-start-job w ↦
-        let within = w .if-place-windows .left in
-        let fits = w .if-start-job .taken in
-        let here = room-at-here start e place ws within fits in
-        let next : first-start (drop place ws) latest ≡ getD ws place no-window .start = at-drop-more (λ zs. first-start zs latest) ws place no-window within in
-        record { start = sym here ∙ c .loop-start .inv .0; in-time = in-time; within = c .loop-start .inv .2; front = c .loop-start .inv .1; back = omega arith; onward = c .loop-start .inv .3 }
+      | then-place-windows·by·then-place-windows w ↦
+          let past = w .if-place-windows .taken in
+          let last : room start e (drop place ws) ≡ start = at-drop-all (room start e) ws place past in
+          let none : first-start (drop place ws) latest ≡ latest = at-drop-all (λ zs. first-start zs latest) ws place past in
+          record { start = sym last ∙ c .loop-start .inv .0; in-time = in-time; within = c .loop-start .inv .2; front = c .loop-start .inv .1; back = omega arith; onward = c .loop-start .inv .3 }
+      | then-place-windows·by·else-place-windows·then-start-job w ↦
+          let within = w .if-place-windows .left in
+          let fits = w .if-start-job .taken in
+          let here = room-at-here start e place ws within fits in
+          let next : first-start (drop place ws) latest ≡ getD ws place no-window .start = at-drop-more (λ zs. first-start zs latest) ws place no-window within in
+          record { start = sym here ∙ c .loop-start .inv .0; in-time = in-time; within = c .loop-start .inv .2; front = c .loop-start .inv .1; back = omega arith; onward = c .loop-start .inv .3 }
     ]
 
 pub end-requires : need.end-requires

@@ -64,7 +64,7 @@ returns-then-entries-gt-MOST-ENTRIES c =
     let low-is : low ≡ max (p .arrival) (admitted-end ws) = c .max-low .ensures ∙ ap (max (p .arrival)) (c .pre .tried .last) in
     let tr = trying (c .args .cycle) n low p ws m (c .pre .fits .0) (c .pre .tried .tally .apart) low-is passed has in
     let e : c .entries-with-entries .result ≡ length (drawn 0 (inserted-at (m .place) w ws) (c .args .cycle)) =
-          c .entries-with-entries .ensures ∙ ap (λ (zs : List Window). length (drawn 0 (inserted-at (m .place) w zs) (c .args .cycle))) cut in
+    c .entries-with-entries .ensures ∙ ap (λ (zs : List Window). length (drawn 0 (inserted-at (m .place) w zs) (c .args .cycle))) cut in
     let e-there : length (drawn 0 (inserted (trial p ws) ws) (c .args .cycle)) ≡ length (drawn 0 (inserted-at (m .place) w ws) (c .args .cycle)) = ap (λ (zs : List Window). length (drawn 0 zs (c .args .cycle))) (tr .there) in
     record { tried = tried-over (c .args .cycle) n low ms t p (c .pre .tried) (c .max-low .ensures) passed; result = sym (tried-long (c .args .cycle) p ws (omega arith)) }
 
@@ -82,7 +82,7 @@ returns-in-Ok c =
     let cut : take (t .tally .windows - 0) ms ≡ ws = ap (λ (k : ℕ). take k ms) zero-off in
     let has : HasRoom low n p ws m = subst (λ (zs : List Window). HasRoom low n p zs m) cut (c .in-Some .ensures tt) in
     let e : c .entries-with-entries .result ≡ length (drawn 0 (inserted-at (m .place) w ws) (c .args .cycle)) =
-          c .entries-with-entries .ensures ∙ ap (λ (zs : List Window). length (drawn 0 (inserted-at (m .place) w zs) (c .args .cycle))) cut in
+    c .entries-with-entries .ensures ∙ ap (λ (zs : List Window). length (drawn 0 (inserted-at (m .place) w zs) (c .args .cycle))) cut in
     let passed : Passed low n ws = subst (Passed low n) cut (c .windows-passed-passed .ensures) in
     let all = tried-in (c .args .cycle) n low (c .entries-with-entries .result) (c .in-Ok .more) ms (c .put .last .table) t p m (c .pre .tried) (c .pre .fits .0) (c .pre .fits .1) (c .max-low .ensures) passed has e (c .if-entries-gt-MOST-ENTRIES .left) (c .put .kept .table) (c .in-Ok .ensures tt) in
     record {
@@ -104,7 +104,7 @@ returns-in-Err c =
     let cut : take (t .tally .windows - 0) ms ≡ ws = ap (λ (k : ℕ). take k ms) zero-off in
     let has : HasRoom low n p ws m = subst (λ (zs : List Window). HasRoom low n p zs m) cut (c .in-Some .ensures tt) in
     let e : c .entries-with-entries .result ≡ length (drawn 0 (inserted-at (m .place) w ws) (c .args .cycle)) =
-          c .entries-with-entries .ensures ∙ ap (λ (zs : List Window). length (drawn 0 (inserted-at (m .place) w zs) (c .args .cycle))) cut in
+    c .entries-with-entries .ensures ∙ ap (λ (zs : List Window). length (drawn 0 (inserted-at (m .place) w zs) (c .args .cycle))) cut in
     let each = fewer-windows 0 (c .args .cycle) (inserted-at (m .place) w ws) in
     let long = length-take-le (t .tally .windows) ms (c .pre .tried .tally .within) in
     let more : length (inserted-at (m .place) w ws) ≡ length ws + 1 = length-inserted-at (m .place) w ws (has .within) in

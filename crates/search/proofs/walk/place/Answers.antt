@@ -23,8 +23,8 @@ returns-then-entries-gt-MOST-ENTRIES c =
     let cut : take (n - 0) ms ≡ ws = ap (λ (k : ℕ). take k ms) zero-off in
     let long : length ws ≡ n = length-take-le n ms (c .pre .tally .within) in
     let e : c .entries-with-entries .result ≡ length (drawn 0 (ws ++ (c .args .w ∷ [])) (c .args .cycle)) =
-          c .entries-with-entries .ensures ∙ ap (λ (zs : List Window). length (drawn 0 (inserted-at n (c .args .w) zs) (c .args .cycle))) cut
-          ∙ ap (λ (zs : List Window). length (drawn 0 zs (c .args .cycle))) (inserted-end n (c .args .w) ws (omega arith)) in
+    c .entries-with-entries .ensures ∙ ap (λ (zs : List Window). length (drawn 0 (inserted-at n (c .args .w) zs) (c .args .cycle))) cut
+    ∙ ap (λ (zs : List Window). length (drawn 0 zs (c .args .cycle))) (inserted-end n (c .args .w) ws (omega arith)) in
     placed-long (c .args .cycle) ws (c .args .w) (omega (arith, c .end .ensures)) (omega arith)
 
 pub returns-in-Ok : need.returns-in-Ok
@@ -37,7 +37,7 @@ returns-in-Ok c =
     let cut : take (n - 0) ms ≡ ws = ap (λ (k : ℕ). take k ms) zero-off in
     let long : length ws ≡ n = length-take-le n ms (c .pre .tally .within) in
     let e : c .entries-with-entries .result ≡ length (drawn 0 (inserted-at n w ws) (c .args .cycle)) =
-          c .entries-with-entries .ensures ∙ ap (λ (zs : List Window). length (drawn 0 (inserted-at n w zs) (c .args .cycle))) cut in
+    c .entries-with-entries .ensures ∙ ap (λ (zs : List Window). length (drawn 0 (inserted-at n w zs) (c .args .cycle))) cut in
     let at-end = inserted-end n w ws (omega arith) in
     let e-end : length (drawn 0 (inserted-at n w ws) (c .args .cycle)) ≡ length (drawn 0 (ws ++ (w ∷ [])) (c .args .cycle)) = ap (λ (zs : List Window). length (drawn 0 zs (c .args .cycle))) at-end in
     let in-time : end w ≤ w .packet .deadline = omega (arith, c .end .ensures) in
@@ -58,8 +58,8 @@ returns-in-Err c =
     let cut : take (n - 0) ms ≡ ws = ap (λ (k : ℕ). take k ms) zero-off in
     let long : length ws ≡ n = length-take-le n ms (c .pre .tally .within) in
     let e : c .entries-with-entries .result ≡ length (drawn 0 (ws ++ (w ∷ [])) (c .args .cycle)) =
-          c .entries-with-entries .ensures ∙ ap (λ (zs : List Window). length (drawn 0 (inserted-at n w zs) (c .args .cycle))) cut
-          ∙ ap (λ (zs : List Window). length (drawn 0 zs (c .args .cycle))) (inserted-end n w ws (omega arith)) in
+    c .entries-with-entries .ensures ∙ ap (λ (zs : List Window). length (drawn 0 (inserted-at n w zs) (c .args .cycle))) cut
+    ∙ ap (λ (zs : List Window). length (drawn 0 zs (c .args .cycle))) (inserted-end n w ws (omega arith)) in
     let each = fewer-windows 0 (c .args .cycle) (ws ++ (w ∷ [])) in
     let one-more = length-push ws w in
     let full = c .in-Err .ensures tt .full in

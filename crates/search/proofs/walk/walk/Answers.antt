@@ -68,12 +68,13 @@ loop-w-again g c =
     let most = f .mandatory .most in
     let some = f .mandatory .some in
     let ws = standing (c .loop-w .windows) (c .loop-w .tally) in
-    let is = placed-is (c .cycle-cycle .result) ws (standing (c .place .last .windows) (c .in-Continue-tally .tally)) w (h .0) in
-    (h .1,
-     come-again (traffic-of s) (s .cycle) (w .packet .queue) (c .loop-w .queues) (c .take .last .self) (c .take .result) (c .loop-w .inv .1) (omega arith) (c .take .ensures .took) (c .take .ensures .few) (c .take .ensures .others),
-     c .take .ensures .others 0 (λ e. omega arith) ∙ c .loop-w .inv .2,
-     c .end-t .ensures ∙ sym (ap (last-end 0) is ∙ last-end-push 0 ws w),
-     subst (All (λ (v : Window). 0 < v .packet .queue)) (sym is) (all-push (λ (v : Window). 0 < v .packet .queue) ws w (c .loop-w .inv .4) some))
+    let is = placed-is (c .cycle-cycle .result) ws (standing (c .place .last .windows) (c .in-Continue-tally .tally)) w (h .0) in (
+      h .1,
+      come-again (traffic-of s) (s .cycle) (w .packet .queue) (c .loop-w .queues) (c .take .last .self) (c .take .result) (c .loop-w .inv .1) (omega arith) (c .take .ensures .took) (c .take .ensures .few) (c .take .ensures .others),
+      c .take .ensures .others 0 (λ e. omega arith) ∙ c .loop-w .inv .2,
+      c .end-t .ensures ∙ sym (ap (last-end 0) is ∙ last-end-push 0 ws w),
+      subst (All (λ (v : Window). 0 < v .packet .queue)) (sym is) (all-push (λ (v : Window). 0 < v .packet .queue) ws w (c .loop-w .inv .4) some),
+    )
 
 pub returns : need.returns
 returns g c =

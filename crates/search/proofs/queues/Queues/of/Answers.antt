@@ -22,11 +22,12 @@ loop-q-again c =
     let qs = c .loop-q .queues in
     let made = c .of .result in
     let within : i < length qs = omega (arith, c .loop-q .inv .0) in
-    let P : ℕ → Queue → Type 0 = λ q x. Built t (c .args .sheet .now .cycle) q (length (t .flows)) (held x) × (x .len ≤ 64) in
-    (length-set qs i made ∙ c .loop-q .inv .0,
-     below-more (λ q. P q (getD (set qs i made) q no-queue)) i
-       (λ q h. let ne : q ≢ i = omega arith in subst (P q) (sym (getD-set-other qs i q made no-queue ne)) (c .loop-q .inv .1 q h))
-       (subst (P i) (sym (getD-set-same qs i made no-queue within)) (c .of .ensures .built, c .of .ensures .few)))
+    let P : ℕ → Queue → Type 0 = λ q x. Built t (c .args .sheet .now .cycle) q (length (t .flows)) (held x) × (x .len ≤ 64) in (
+      length-set qs i made ∙ c .loop-q .inv .0,
+      below-more (λ q. P q (getD (set qs i made) q no-queue)) i
+          (λ q h. let ne : q ≢ i = omega arith in subst (P q) (sym (getD-set-other qs i q made no-queue ne)) (c .loop-q .inv .1 q h))
+          (subst (P i) (sym (getD-set-same qs i made no-queue within)) (c .of .ensures .built, c .of .ensures .few)),
+    )
 
 pub returns : need.returns
 returns c = λ q h. c .loop-q .inv .1 q (omega arith)

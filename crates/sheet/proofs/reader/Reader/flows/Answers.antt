@@ -64,7 +64,7 @@ loop-self-again c =
     let same : flows-from (64 - vec-len done) rate (vec-items done) here ≡ flows-from (64 - n) rate (vec-items done) here = ap (λ (m : ℕ). flows-from (64 - m) rate (vec-items done) here) (sym (c .len .ensures)) in
     let count : n + 1 ≡ vec-len (c .push .last .self) = ap (λ (m : ℕ). m + 1) (c .len .ensures) ∙ sym (pushed .len) in
     let whole : flows-from (64 - vec-len (c .push .last .self)) rate (vec-items (c .push .last .self)) next ≡ flows-from (64 - (n + 1)) rate (vec-items done ++ (c .in-Continue-flow .flow ∷ [])) next =
-        ap (λ (m : ℕ). flows-from (64 - m) rate (vec-items (c .push .last .self)) next) (sym count) ∙ ap (λ (fs : List Flow). flows-from (64 - (n + 1)) rate fs next) (pushed .items) in
+    ap (λ (m : ℕ). flows-from (64 - m) rate (vec-items (c .push .last .self)) next) (sym count) ∙ ap (λ (fs : List Flow). flows-from (64 - (n + 1)) rate fs next) (pushed .items) in
     let len-is = c .len .ensures in
     (whole ∙ sym step ∙ sym same ∙ c .loop-self .inv .0, omega (arith, pushed .len), omega (arith, pushed .len), rw (pushed .items) (all-kept-push rate (vec-items done) (c .in-Continue-flow .flow) (c .loop-self .inv .3) (lines .2)))
 
