@@ -8,6 +8,7 @@ use lib.ListN.{length, take, drop}
 use Rattle.std.specs.declared.option.Option.{Option}
 use Rattle.std.specs.declared.option.Option.the-variants.{Some, None}
 use Rattle.refusal.specs.declared.Refusal.{Refusal}
+use Rattle.refusal.specs.Told.{plain}
 use Rattle.gates.specs.declared.entry.Entry.{Entry}
 use Rattle.gates.specs.declared.text.WriteFault.{WriteFault}
 use Rattle.gates.specs.declared.text.WriteFault.the-variants.{Entries, Memory}
@@ -27,8 +28,8 @@ write-fault list room =
 
 -- 20: the list is empty or too long; 21: the memory is shorter than the text
 abbrev pub refusal-of : WriteFault → Refusal
-refusal-of Entries = record { code = 20; place = 0; number = 0 }
-refusal-of Memory = record { code = 21; place = 0; number = 0 }
+refusal-of Entries = plain 20
+refusal-of Memory = plain 21
 
 -- the list was written: its text is the first n bytes of the memory, and what stood behind them stayed
 pub record Listed (list : List Entry) (n : ℕ) (before after : List ℕ) : Type 0 where

@@ -35,16 +35,8 @@ impl WriteFault {
         ensures { λ r. ⌜ r ≡ refusal-of self ⌝ }
     {
         match self {
-            WriteFault::Entries => Refusal {
-                code: 20,
-                place: 0,
-                number: 0,
-            },
-            WriteFault::Memory => Refusal {
-                code: 21,
-                place: 0,
-                number: 0,
-            },
+            WriteFault::Entries => Refusal::plain(20),
+            WriteFault::Memory => Refusal::plain(21),
         }
     }
 }

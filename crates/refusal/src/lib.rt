@@ -3,7 +3,7 @@ ghost use mathlib.Core.Path.{_≡_};
 ghost use Rattle.std.specs.Of.String.{string-bytes};
 ghost use Rattle.std.specs.Vec.{made};
 ghost use Rattle.std.specs.declared.option.Option.the-variants.{Some};
-ghost use Rattle.refusal.specs.Told.{refusal-text};
+ghost use Rattle.refusal.specs.Told.{plain, at-place, refusal-text};
 use std::alloc::AllocError;
 use std::alloc::Global;
 use std::fmt;
@@ -14,6 +14,27 @@ pub struct Refusal {
     pub code: u8,
     pub place: u32,
     pub number: u64,
+}
+
+impl Refusal {
+    // A refusal that names no place and no number.
+    pub fn plain(code: u8) -> Refusal
+        ensures { λ r. ⌜ r ≡ plain code ⌝ }
+    {
+        Refusal::at(code, 0)
+    }
+
+    // A refusal at a place.
+    pub fn at(code: u8, place: u32) -> Refusal
+        ensures { λ r. ⌜ r ≡ at-place code place ⌝ }
+    {
+        let number = 0;
+        Refusal {
+            code,
+            place,
+            number,
+        }
+    }
 }
 
 pub impl fmt::Display for Refusal as RefusalDisplay {

@@ -15,11 +15,7 @@ fn line_refusal(fault: LineFault) -> Refusal
         LineFault::Range(line) => (4, line),
         LineFault::WireTime(line) => (5, line),
     };
-    Refusal {
-        code,
-        place,
-        number: 0,
-    }
+    Refusal::at(code, place)
 }
 
 // The refusal that a fault stands for; want of memory is none.
@@ -28,16 +24,8 @@ pub fn sheet_refusal(fault: SheetFault) -> Option<Refusal>
 {
     match fault {
         SheetFault::Memory => None,
-        SheetFault::Size => Some(Refusal {
-            code: 1,
-            place: 0,
-            number: 0,
-        }),
+        SheetFault::Size => Some(Refusal::plain(1)),
         SheetFault::Line(fault) => Some(line_refusal(fault)),
-        SheetFault::Cycle => Some(Refusal {
-            code: 6,
-            place: 0,
-            number: 0,
-        }),
+        SheetFault::Cycle => Some(Refusal::plain(6)),
     }
 }

@@ -1,7 +1,8 @@
 -- Which refusal a full table is.
 use Rattle.refusal.specs.declared.Refusal.{Refusal}
+use Rattle.refusal.specs.Told.{plain}
 use Rattle.table.specs.declared.full.Full.{Full}
 
 -- 19: the table is full
 abbrev pub full-refusal : Full → Refusal
-full-refusal full = record { code = 19; place = 0; number = 0 }
+full-refusal full = plain 19

@@ -12,10 +12,6 @@ impl Full {
     pub fn refusal(self) -> Refusal
         ensures { λ r. ⌜ r ≡ full-refusal self ⌝ }
     {
-        Refusal {
-            code: 19,
-            place: 0,
-            number: 0,
-        }
+        Refusal::plain(19)
     }
 }
