@@ -1,8 +1,20 @@
 // What `plan` answers: a flow sheet's text goes in, the text of its gate list comes out, or that of a refusal.
+ghost use mathlib.Core.Path.{_≡_};
+ghost use Prim.Native.Nat.{_≤_, _<_};
+ghost use lib.ListN.{length};
+ghost use Rattle.std.specs.Of.Vec.{vec-items};
+ghost use Rattle.std.specs.Vec.{made};
+ghost use Rattle.std.specs.declared.option.Option.the-variants.{Some};
+ghost use Rattle.refusal.specs.Told.{refusal-text};
+ghost use Rattle.sheet.specs.Contents.{traffic-of};
+ghost use Rattle.sheet.specs.Reading.{sheet-of};
+ghost use Rattle.gates.specs.Writes.{write-fault};
+ghost use Rattle.planner.specs.Answer.{told, written, sheet-answer, plan-answer};
 use gates::entry::Entry;
 use gates::text::write_list;
 use refusal::Refusal;
 use refusal::refusal_text;
+use search::fault::SearchFault;
 use search::search::search;
 use search::serving::DeadlineMonotonic;
 use search::serving::DeadlineMonotonicServes;
@@ -33,54 +45,77 @@ const NO_WINDOW: Window = Window {
     },
 };
 
+// A search's fault as it is told.
+fn told(fault: SearchFault) -> Refusal
+    ensures { λ r. ⌜ r ≡ told fault ⌝ }
+{
+    let (code, place, number) = fault.numbers();
+    Refusal {
+        code,
+        place,
+        number,
+    }
+}
+
 // The lines of a refusal.
-fn refused(heap: Global, refusal: Refusal) -> Result<Vec<u8>, AllocError> {
+fn refused(heap: Global, refusal: Refusal) -> Result<Vec<u8>, AllocError>
+    ensures { λ r. ⌜ made r (λ v. vec-items v ≡ refusal-text refusal) ⌝ }
+{
     refusal_text(heap, refusal)?.as_bytes().to_vec(heap)
 }
 
-// The text of a list.
-fn written(heap: Global, list: &[Entry]) -> Result<Vec<u8>, AllocError> {
-    let mut text = vec![in heap; 0u8; LONGEST_TEXT]?;
-    match write_list(list, text.as_mut_slice()) {
-        Ok(n) => text.truncate(n),
-        Err(fault) => return refused(heap, fault.refusal()),
+// The text of a list, or of the refusal of its writing, by way of this memory.
+fn written_in(heap: Global, list: &[Entry], memory: &mut [u8]) -> Result<Vec<u8>, AllocError>
+    ensures { λ r. ⌜ made r (λ v. vec-items v ≡ written (now (list .entry)) (write-fault (now (list .entry)) (length (now (memory .entry))))) ⌝ }
+{
+    match write_list(list, memory) {
+        Ok(n) => memory[0..n].to_vec(heap),
+        Err(fault) => refused(heap, fault.refusal()),
     }
-    Ok(text)
+}
+
+// The text of a list, or of the refusal of its writing.
+fn list_text(heap: Global, list: &[Entry]) -> Result<Vec<u8>, AllocError>
+    ensures { λ r. ⌜ made r (λ v. vec-items v ≡ written (now (list .entry)) (write-fault (now (list .entry)) 30720)) ⌝ }
+{
+    let mut memory = vec![in heap; 0u8; LONGEST_TEXT]?;
+    written_in(heap, list, memory.as_mut_slice())
+}
+
+// The text of the sheet's deadline-monotonic list, or of the refusal of its search, by way of this memory.
+fn found_in(
+    heap: Global,
+    sheet: &Sheet,
+    list: &mut [Entry],
+    windows: &mut [Window],
+) -> Result<Vec<u8>, AllocError>
+    requires some { ⌜ 0 < length (traffic-of (now sheet) .flows) ⌝ }
+    requires memory { ⌜ (1024 ≤ length (now list)) × (1024 ≤ length (now windows)) ⌝ }
+    ensures { λ r. ⌜ made r (λ v. vec-items v ≡ sheet-answer (traffic-of (now (sheet .entry)))) ⌝ }
+{
+    match search(sheet, &DeadlineMonotonic, list, windows) {
+        Ok(n) => list_text(heap, &list[0..n]),
+        Err(fault) => refused(heap, told(fault)),
+    }
 }
 
 // The text of the sheet's deadline-monotonic list, or of the refusal of its search.
-fn drawn(heap: Global, sheet: &Sheet) -> Result<Vec<u8>, AllocError> {
+fn answer(heap: Global, sheet: &Sheet) -> Result<Vec<u8>, AllocError>
+    requires { ⌜ 0 < length (traffic-of (now sheet) .flows) ⌝ }
+    ensures { λ r. ⌜ made r (λ v. vec-items v ≡ sheet-answer (traffic-of (now (sheet .entry)))) ⌝ }
+{
     let mut list = vec![in heap; Entry::ZERO; RECORDS]?;
     let mut windows = vec![in heap; NO_WINDOW; RECORDS]?;
-    match search(
-        sheet,
-        &DeadlineMonotonic,
-        list.as_mut_slice(),
-        windows.as_mut_slice(),
-    ) {
-        Ok(n) => {
-            list.truncate(n);
-            written(heap, list.as_slice())
-        }
-        Err(fault) => {
-            let (code, place, number) = fault.numbers();
-            refused(
-                heap,
-                Refusal {
-                    code,
-                    place,
-                    number,
-                },
-            )
-        }
-    }
+    found_in(heap, sheet, list.as_mut_slice(), windows.as_mut_slice())
 }
 
 // The text that answers a sheet's text.
-pub fn plan(heap: Global, text: &[u8]) -> Result<Vec<u8>, AllocError> {
+pub fn plan(heap: Global, text: &[u8]) -> Result<Vec<u8>, AllocError>
+    ensures { λ r. ⌜ made r (λ v. Some (vec-items v) ≡ plan-answer (sheet-of (now (text .entry)))) ⌝ }
+{
     let mut sheet = Sheet::new(heap);
     match sheet.read(text) {
-        Ok(()) => drawn(heap, &sheet),
+        Ok(()) => answer(heap, &sheet),
         Err(fault) => match sheet_refusal(fault) {
             Some(refusal) => refused(heap, refusal),
             None => Err(AllocError),

@@ -9,3 +9,8 @@ pub mod Inserts
 pub mod Nexts
 pub mod Rooms
 pub mod Admits
+pub mod Rising
+pub mod Arrivals
+pub mod Lefts
+pub mod Walking
+pub mod Outcomes

@@ -122,22 +122,25 @@ work-placed-last long y (n ∷ ns) =
     (λ e. ap (λ (t : Bool). work long (cond t (y ∷ (n ∷ ns)) (n ∷ placed-last next-before y ns))) e ∙ omega arith)
     (cases-bool (before-each next-before y (n ∷ ns)))
 
--- the packet of a flow with a greater number arrives later
-pub next-after : (s : Traffic) (long q : ℕ) (x y : Job) → all-kept (s .rate) (s .flows) ≡ true → Due s long q x → NextDue s long q (x .flow) (x .number + 1) y → x .arrival < y .arrival
-next-after s long q x y kept d n =
+-- of two packets of a flow the one with the greater number arrives later
+pub due-after : (s : Traffic) (long q : ℕ) (x y : Job) → all-kept (s .rate) (s .flows) ≡ true → Due s long q x → Due s long q y → y .flow ≡ x .flow → x .number < y .number → x .arrival < y .arrival
+due-after s long q x y kept d e same less =
     let i = x .flow in
     let f = flow-at (s .flows) i in
     let within : i - 1 < length (s .flows) = omega (arith, d .named, d .listed) in
     let k : Ranged (s .rate) f = subst (Ranged (s .rate)) (sym (flow-at-getD (s .flows) i (d .named))) (ranged-at (s .rate) (s .flows) (i - 1) kept within) in
     let a : x .arrival ≡ arrival f (x .number) = ap (λ (z : Job). z .arrival) (d .is) in
-    let same : flow-at (s .flows) (y .flow) ≡ f = ap (flow-at (s .flows)) (n .same-flow) in
-    let b : y .arrival ≡ arrival f (y .number) = ap (λ (z : Job). z .arrival) (n .due .is) ∙ ap (λ g. arrival g (y .number)) same in
-    let up : arrival f (x .number + 1) ≤ arrival f (y .number) = arrival-rises f (x .number + 1) (y .number) (n .first .from) in
+    let same-flow : flow-at (s .flows) (y .flow) ≡ f = ap (flow-at (s .flows)) same in
+    let b : y .arrival ≡ arrival f (y .number) = ap (λ (z : Job). z .arrival) (e .is) ∙ ap (λ g. arrival g (y .number)) same-flow in
+    let up : arrival f (x .number + 1) ≤ arrival f (y .number) = arrival-rises f (x .number + 1) (y .number) (omega arith) in
     let counted = d .counted in
     let one : x .number + 1 - 1 ≡ (x .number - 1) + 1 = omega arith in
     let step : arrival f (x .number + 1) ≡ (x .number - 1) * f .period + 1 * f .period = ap (λ (m : ℕ). m * f .period) one ∙ add-mul (x .number - 1) 1 (f .period) in
     let some = k .period-some in
     omega arith
+
+pub next-after : (s : Traffic) (long q : ℕ) (x y : Job) → all-kept (s .rate) (s .flows) ≡ true → Due s long q x → NextDue s long q (x .flow) (x .number + 1) y → x .arrival < y .arrival
+next-after s long q x y kept d n = let from = n .first .from in due-after s long q x y kept d (n .due) (n .same-flow) (omega arith)
 
 -- less is to come after a packet was taken
 pub stepped-work : (s : Traffic) (long q : ℕ) (x : Job) (ns ms : List Next) → all-kept (s .rate) (s .flows) ≡ true → Lined s long q ns → Stepped s long q x ns ms → work long ms < work long ns

@@ -9,3 +9,5 @@ pub mod Queues
 pub mod Tallies
 pub mod Trials
 pub mod Memory
+pub mod Packets
+pub mod Left

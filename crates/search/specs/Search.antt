@@ -86,15 +86,19 @@ turn None ws go = Ok ws
 turn (Some w) ws go = go w
 
 -- the walk from t on, with n packets left and the windows so far
-abbrev pub walk : (Job → Job → Bool) → ℕ → (n t : ℕ) → (ℕ → List Job) → List Window → Result (List Window) SearchFault
-walk before long zero t left ws = Ok ws
-walk before long (suc n) t left ws =
-    turn (next before t (firsts left 7)) ws (λ w. and-then (placed-next long ws w) (walk before long n (end w) (without (w .packet .queue) left)))
+abbrev pub walked : (Job → Job → Bool) → ℕ → (n t : ℕ) → (ℕ → List Job) → List Window → Result (List Window) SearchFault
+walked before long zero t left ws = Ok ws
+walked before long (suc n) t left ws =
+    turn (next before t (firsts left 7)) ws (λ w. and-then (placed-next long ws w) (walked before long n (end w) (without (w .packet .queue) left)))
 
 -- how many are left in the queues 1 to n
 abbrev pub count : (ℕ → List Job) → ℕ → ℕ
 count left zero = 0
 count left (suc q) = length (left (suc q)) + count left q
+
+-- the walk over all that is left, from t on
+abbrev pub walked-over : (Job → Job → Bool) → (long t : ℕ) → (ℕ → List Job) → List Window → Result (List Window) SearchFault
+walked-over before long t left ws = walked before long (count left 7) t left ws
 
 -- the least start from s on at which e instants overlap no window (the windows one after the other)
 abbrev pub room : ℕ → ℕ → List Window → ℕ
@@ -123,14 +127,14 @@ abbrev pub tried : ℕ → Job → List Window → List Window
 tried long p ws = cond (admissible long (trial p ws) ws) (inserted (trial p ws) ws) ws
 
 -- the windows after the optional packets have been tried in their order
-abbrev pub admit : ℕ → List Job → List Window → List Window
-admit long [] ws = ws
-admit long (p ∷ ps) ws = admit long ps (tried long p ws)
+abbrev pub admitted : ℕ → List Job → List Window → List Window
+admitted long [] ws = ws
+admitted long (p ∷ ps) ws = admitted long ps (tried long p ws)
 
 -- the windows of a search
-abbrev pub planned : (Job → Job → Bool) → Cycle → Result (List Window) SearchFault
-planned before c = and-then (walk before (c .long) (count (c .mandatory) 7) 0 (c .mandatory) []) (λ ws. Ok (admit (c .long) (c .optional) ws))
+abbrev pub planned-windows : (Job → Job → Bool) → Cycle → Result (List Window) SearchFault
+planned-windows before c = and-then (walked-over before (c .long) 0 (c .mandatory) []) (λ ws. Ok (admitted (c .long) (c .optional) ws))
 
 -- the list that a search draws
-abbrev pub plan : (Job → Job → Bool) → Cycle → Result (List Entry) SearchFault
-plan before c = and-then (planned before c) (λ ws. Ok (drawn 0 ws (c .long)))
+abbrev pub planned-list : (Job → Job → Bool) → Cycle → Result (List Entry) SearchFault
+planned-list before c = and-then (planned-windows before c) (λ ws. Ok (drawn 0 ws (c .long)))

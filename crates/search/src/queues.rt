@@ -1,6 +1,7 @@
 // The packets of all queues that are still to come, and which of them is served next.
 ghost use mathlib.Core.Path.{_≡_};
 ghost use Prim.Native.Nat.{ℕ, _≤_, _<_};
+ghost use lib.ListN.{length};
 ghost use Rattle.std.specs.Options.{Cases};
 ghost use mathlib.Core.List.{[]};
 ghost use Rattle.sheet.specs.Contents.{traffic-of};
@@ -55,7 +56,8 @@ fn sooner<O: ServingOrder>(order: &O, t: u64, best: Option<Job>, job: Option<Job
 impl Queues {
     // All packets of the cycle.
     pub fn of(sheet: &Sheet) -> Queues
-        ensures { λ r. ⌜ AllBuilt (traffic-of (now (sheet .entry))) (now (sheet .entry) .cycle) r ⌝ }
+        ensures built { λ r. ⌜ AllBuilt (traffic-of (now (sheet .entry))) (now (sheet .entry) .cycle) r ⌝ }
+        ensures eight { λ r. ⌜ length (r .queues) ≡ 8 ⌝ }
     {
         let mut queues = [Queue::none(); 8];
         for q in 0..8u8 {

@@ -3,7 +3,10 @@ ghost use mathlib.Core.Path.{_≡_};
 ghost use Prim.Native.Nat.{ℕ, _≤_, _<_};
 ghost use lib.ListN.{length, take, replicate};
 ghost use Rattle.std.specs.Results.{Cases};
-ghost use Rattle.search.specs.Memory.{zero-from, zero-windows};
+ghost use Rattle.std.specs.declared.result.Result.the-variants.{Err};
+ghost use Rattle.search.specs.Search.{planned-list};
+ghost use Rattle.search.specs.Packets.{cycle-of};
+ghost use Rattle.search.specs.Memory.{zero-from, zero-windows, Planned, found, answer-of, list-after, windows-after};
 use crate::drawing::draw;
 use crate::fault::SearchFault;
 use crate::queues::Queues;
@@ -67,7 +70,9 @@ fn planned<O: ServingOrder>(
     windows: &mut [Window],
 ) -> Result<usize, SearchFault>
     requires memory { ⌜ (1024 ≤ length (now list)) × (1024 ≤ length (now windows)) ⌝ }
-    ensures { λ r. ⌜ Cases r (λ n. n ≤ 1024) (λ _. Unit {0}) ⌝ }
+    ensures { λ r. ⌜ Cases r
+        (λ n. Planned (planned-list (before (now (order .entry))) (cycle-of (now (sheet .entry)))) n (now (list .entry)) (now (list .exit)))
+        (λ e. planned-list (before (now (order .entry))) (cycle-of (now (sheet .entry))) ≡ Err e) ⌝ }
 {
     let mut queues = Queues::of(sheet);
     let placed = walk(sheet, order, &mut queues, windows)?;
@@ -83,7 +88,11 @@ pub fn search<O: ServingOrder>(
     order: &O,
     list: &mut [Entry],
     windows: &mut [Window],
-) -> Result<usize, SearchFault> {
+) -> Result<usize, SearchFault>
+    ensures value { λ r. ⌜ r ≡ answer-of (found (before (now (order .entry))) (now (sheet .entry)) (length (now (list .entry))) (length (now (windows .entry)))) ⌝ }
+    ensures list { λ _. ⌜ now (list .exit) ≡ list-after (found (before (now (order .entry))) (now (sheet .entry)) (length (now (list .entry))) (length (now (windows .entry)))) (now (list .entry)) ⌝ }
+    ensures windows { λ _. ⌜ now (windows .exit) ≡ windows-after (found (before (now (order .entry))) (now (sheet .entry)) (length (now (list .entry))) (length (now (windows .entry)))) (now (windows .entry)) ⌝ }
+{
     if sheet.flows().len() == 0 {
         return Err(SearchFault::EmptySheet);
     }

@@ -30,4 +30,4 @@ loop-q-again c =
     )
 
 pub returns : need.returns
-returns c = λ q h. c .loop-q .inv .1 q (omega arith)
+returns c = record { built = λ q h. c .loop-q .inv .1 q (omega arith); eight = c .loop-q .inv .0 }
