@@ -1,0 +1,8 @@
+// The two sorts of packets.
+
+// Mandatory packets, or optional ones.
+#[derive(Clone, Copy, PartialEq, Eq, Debug)]
+pub enum Sort {
+    Mandatory,
+    Optional,
+}

@@ -1,0 +1,34 @@
+-- Lemmas of how a port sends.
+pub mod Lists
+pub mod Fitting
+pub mod Single
+pub mod Keeping
+pub mod Gated
+pub mod Line
+pub mod OneQueue
+pub mod Lagging
+pub mod Counting
+pub mod Shift
+pub mod Packets
+pub mod Orders
+pub mod Strict
+pub mod Steps
+pub mod Alone
+pub mod Cycles
+pub mod Apart
+pub mod Row
+pub mod Waiting
+pub mod Lined
+pub mod Laws
+pub mod Late
+pub mod Windowed
+pub mod Accepting
+pub mod Verdicts
+pub mod Source
+pub mod Bridge
+pub mod Kept
+pub mod Anyhow
+pub mod Jumping
+pub mod Tally
+pub mod Account
+mod Examples
