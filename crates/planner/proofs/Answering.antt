@@ -24,10 +24,11 @@ use Rattle.gates.specs.declared.entry.Entry.{Entry}
 use Rattle.gates.specs.Entries.{no-entry}
 use Rattle.gates.specs.Writes.{write-fault}
 use Rattle.search.specs.declared.fault.SearchFault.{SearchFault}
+use Rattle.search.specs.Faults.{search-refusal}
 use Rattle.search.specs.Packets.{packets-before}
 use Rattle.search.specs.Search.{Cycle, planned-list}
 use Rattle.search.specs.Memory.{found, answer-of, list-after}
-use Rattle.planner.specs.Answer.{cycle-packets, told, written, search-answer}
+use Rattle.planner.specs.Answer.{packets-of-cycle, written, search-answer}
 
 -- another text that is the same
 pub made-same : (r : Result (Vec ℕ Global) AllocError) (a b : List ℕ) → a ≡ b → made r (λ v. vec-items v ≡ a) → made r (λ v. vec-items v ≡ b)
@@ -38,7 +39,7 @@ abbrev of-length : Traffic → ℕ → Cycle
 of-length t n = record { long = n; mandatory = λ q. packets-before t q n; optional = packets-before t 0 n }
 
 -- with flows and memory enough, what is found is the planned list
-pub found-is : (before : Job → Job → Bool) (s : Sheet) (entries windows : ℕ) → 0 < length (traffic-of s .flows) → 1024 ≤ entries → 1024 ≤ windows → found before s entries windows ≡ planned-list before (cycle-packets (traffic-of s))
+pub found-is : (before : Job → Job → Bool) (s : Sheet) (entries windows : ℕ) → 0 < length (traffic-of s .flows) → 1024 ≤ entries → 1024 ≤ windows → found before s entries windows ≡ planned-list before (packets-of-cycle (traffic-of s))
 found-is before s entries windows some many wide =
     let flows = ne-eqb (length (traffic-of s .flows)) 0 (λ e. omega arith) in
     let list = le-ltb entries 1024 many in
@@ -54,6 +55,6 @@ found-list (Ok list) n old after value memory =
 found-list (Err e) n old after value memory = let z : _≡_ {A = ℕ} 0 1 = cc in absurd (omega arith)
 
 -- none was found: the refusal
-pub found-fault : (r : Result (List Entry) SearchFault) (e : SearchFault) → Err e ≡ answer-of r → search-answer r ≡ refusal-text (told e)
+pub found-fault : (r : Result (List Entry) SearchFault) (e : SearchFault) → Err e ≡ answer-of r → search-answer r ≡ refusal-text (search-refusal e)
 found-fault (Ok list) e value = let z : _≡_ {A = ℕ} 0 1 = cc in absurd (omega arith)
-found-fault (Err f) e value = let same : e ≡ f = cc in ap (λ (x : SearchFault). refusal-text (told x)) (sym same)
+found-fault (Err f) e value = let same : e ≡ f = cc in ap (λ (x : SearchFault). refusal-text (search-refusal x)) (sym same)

@@ -9,16 +9,15 @@ ghost use Rattle.refusal.specs.Told.{refusal-text};
 ghost use Rattle.sheet.specs.Contents.{traffic-of};
 ghost use Rattle.sheet.specs.Reading.{sheet-of};
 ghost use Rattle.gates.specs.Writes.{write-fault};
-ghost use Rattle.planner.specs.Answer.{told, written, sheet-answer, plan-answer};
+ghost use Rattle.planner.specs.Answer.{written, sheet-answer, plan-answer};
 use gates::entry::Entry;
 use gates::text::write_list;
 use refusal::Refusal;
 use refusal::refusal_text;
-use search::fault::SearchFault;
-use search::search::search;
 use search::serving::DeadlineMonotonic;
 use search::serving::DeadlineMonotonicServes;
 use search::window::Window;
+use search_laws::lawful_search;
 use sheet::refusals::sheet_refusal;
 use sheet::sheet::Sheet;
 use std::alloc::AllocError;
@@ -44,18 +43,6 @@ const NO_WINDOW: Window = Window {
         weight: 0,
     },
 };
-
-// A search's fault as it is told.
-fn told(fault: SearchFault) -> Refusal
-    ensures { λ r. ⌜ r ≡ told fault ⌝ }
-{
-    let (code, place, number) = fault.numbers();
-    Refusal {
-        code,
-        place,
-        number,
-    }
-}
 
 // The lines of a refusal.
 fn refused(heap: Global, refusal: Refusal) -> Result<Vec<u8>, AllocError>
@@ -93,9 +80,9 @@ fn found_in(
     requires memory { ⌜ (1024 ≤ length (now list)) × (1024 ≤ length (now windows)) ⌝ }
     ensures { λ r. ⌜ made r (λ v. vec-items v ≡ sheet-answer (traffic-of (now (sheet .entry)))) ⌝ }
 {
-    match search(sheet, &DeadlineMonotonic, list, windows) {
+    match lawful_search(sheet, &DeadlineMonotonic, list, windows) {
         Ok(n) => list_text(heap, &list[0..n]),
-        Err(fault) => refused(heap, told(fault)),
+        Err(fault) => refused(heap, fault.refusal()),
     }
 }
 

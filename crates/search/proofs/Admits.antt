@@ -1,7 +1,7 @@
 -- One trial: where the packet starts, and what stands after it. Assumes nothing.
 use mathlib.Core.Path.{_≡_, refl, sym, ap, subst, _∙_}
-use mathlib.Core.List.{List, [], _∷_, _++_}
-use mathlib.Core.Bool.{Bool, true, false, cond, _&&_}
+use mathlib.Core.List.{List, [], _∷_}
+use mathlib.Core.Bool.{false}
 use mathlib.Core.Logic.{⊎-elim}
 use Prim.Native.Nat.{ℕ, zero, suc, _+_, _-_, _≤_, _<_, max}
 use native.Mathlib.Omega.{arith}
@@ -10,18 +10,17 @@ use lib.ListN.{length, take, drop}
 use Rattle.std.specs.shelf.Lists.{All}
 use Rattle.std.proofs.shelf.Lists.{take-take, take-append-le, length-take-le, length-append, length-drop}
 use Rattle.std.proofs.shelf.Elements.{all-weaker}
-use Rattle.std.proofs.shelf.Tests.{cases-bool, le-leb, lt-leb, cond-both, and-left, and-right, and-from, eq-eqb, eqb-true}
+use Rattle.std.proofs.shelf.Tests.{cases-bool, le-leb, lt-leb, cond-both, and-right, eq-eqb, eqb-true}
 use Rattle.traffic.specs.declared.packet.Job.{Job}
 use Rattle.table.specs.Calls.{Put}
 use Rattle.search.specs.declared.window.Window.{Window}
-use Rattle.search.specs.declared.walk.Tally.{Tally}
 use Rattle.search.specs.declared.trials.Room.{Room}
 use Rattle.search.specs.declared.trials.Trials.{Trials}
-use Rattle.search.specs.Windows.{Fits, Apart, end, last-end, first-start, latest, starts-before}
+use Rattle.search.specs.Windows.{Fits, Apart, end, latest, starts-before}
 use Rattle.search.specs.Drawn.{drawn, inserted-at}
 use Rattle.search.specs.Search.{most-entries, room, admitted-end, trial, inserted, admissible, tried}
-use Rattle.search.specs.Tallies.{FitsJob, Tallied, standing}
-use Rattle.search.specs.Trials.{EndsBy, Passed, HasRoom, NoRoom, Tried}
+use Rattle.search.specs.Tallies.{FitsJob, standing}
+use Rattle.search.specs.Trials.{EndsBy, Passed, HasRoom, Tried}
 use Rattle.search.proofs.Inserts.{placed-there, start-before, inserted-tally}
 use Rattle.search.proofs.Rooms.{room-passed, room-from}
 

@@ -1,22 +1,21 @@
 -- The packets of a queue in the cycle: they rise in queue order, and are those that are due. Assumes nothing.
-use mathlib.Core.Path.{_≡_, refl, sym, ap, subst, _∙_}
-use mathlib.Core.List.{List, [], _∷_, _++_}
-use mathlib.Core.Bool.{Bool, true, false, cond, not, _&&_}
+use mathlib.Core.Path.{_≡_, sym, ap, subst, _∙_}
+use mathlib.Core.List.{List, [], _∷_}
+use mathlib.Core.Bool.{Bool, true, cond, not}
 use mathlib.Core.Logic.{_⊎_, inl, inr, ⊎-elim}
 use Prim.Native.Nat.{ℕ, zero, suc, _+_, _-_, _*_, _/_, _%_, _≤_, _<_}
 use native.Mathlib.Omega.{arith}
 use native.Mathlib.Numerals.{add-one}
 use native.Mathlib.Nat.{div-add-mod', mul-mod-left, mul-div-cancel}
-use lib.Dec.{eqb, ltb}
+use lib.Dec.{eqb}
 use lib.ListN.{length, getD}
 use Rattle.std.specs.shelf.Lists.{All}
 use Rattle.std.proofs.shelf.Elements.{all-append, all-weaker}
 use Rattle.std.proofs.shelf.Tests.{cases-bool, and-parts, and-from, eqb-true, eq-eqb, lt-ltb, or-left, cases-eq}
-use Rattle.traffic.specs.declared.rate.Rate.{Rate}
 use Rattle.traffic.specs.declared.flow.Flow.{Flow}
 use Rattle.traffic.specs.declared.packet.Job.{Job}
 use Rattle.traffic.specs.Packets.{Traffic, no-flow, flow-at, arrival, queue-of, job}
-use Rattle.traffic.specs.Orders.{queue-before, JobsDiffer}
+use Rattle.traffic.specs.Orders.{queue-before}
 use Rattle.traffic.proofs.Total.{queue-order}
 use Rattle.table.specs.Order.{placed}
 use Rattle.sheet.specs.Ranges.{all-kept}

@@ -2,13 +2,13 @@
 use mathlib.Core.Path.{_≡_, refl, sym, ap, _∙_}
 use mathlib.Core.List.{List, [], _∷_, _++_, append-assoc}
 use mathlib.Core.Logic.{⊎-elim}
-use mathlib.Core.Bool.{Bool, true, false, cond}
-use Prim.Native.Nat.{ℕ, zero, suc, _+_, _-_, _≤_, _<_}
+use mathlib.Core.Bool.{cond}
+use Prim.Native.Nat.{ℕ, _+_, _-_, _≤_, _<_}
 use native.Mathlib.Omega.{arith}
 use lib.Dec.{ltb}
 use lib.ListN.{length, take, drop, getD, set}
 use Rattle.std.proofs.shelf.Tests.{cases-bool}
-use Rattle.std.proofs.shelf.Lists.{at-drop-more, at-drop-all, drop-drop, length-take-le, take-more, take-append-drop, take-set, take-more-set, drop-set-lt, length-append, append-nil}
+use Rattle.std.proofs.shelf.Lists.{at-drop-more, at-drop-all, drop-drop, length-take-le, take-more, take-append-drop, take-more-set, drop-set-lt, length-append, append-nil}
 use Rattle.gates.specs.declared.entry.Entry.{Entry}
 use Rattle.search.specs.declared.window.Window.{Window}
 use Rattle.search.specs.Windows.{end, last-end, first-start}

@@ -1,7 +1,7 @@
 -- A window among others that stand one after the other. Assumes nothing.
 use mathlib.Core.Path.{_≡_, refl, sym, ap, subst, _∙_}
 use mathlib.Core.List.{List, [], _∷_, _++_}
-use mathlib.Core.Bool.{Bool, true, false, cond, not, _&&_}
+use mathlib.Core.Bool.{true, false, not}
 use mathlib.Core.Logic.{⊎-elim}
 use Prim.Native.Nat.{ℕ, zero, suc, _+_, _-_, _≤_, _<_}
 use native.Mathlib.Omega.{arith}
@@ -9,7 +9,7 @@ use lib.Dec.{ltb}
 use lib.ListN.{length, take, drop}
 use Rattle.std.specs.shelf.Lists.{All}
 use Rattle.std.proofs.shelf.Elements.{all-append, all-take, all-drop}
-use Rattle.std.proofs.shelf.Lists.{take-all, drop-all, length-take-le}
+use Rattle.std.proofs.shelf.Lists.{take-all, drop-all}
 use Rattle.std.proofs.shelf.Tests.{cases-bool, and-from, le-ltb, lt-ltb, ltb-true, ltb-false}
 use Rattle.std.proofs.shelf.Ways.{tells}
 use Rattle.table.specs.Order.{in-order, none-before, placed, placed-last}
@@ -19,9 +19,7 @@ use Rattle.search.specs.declared.window.Window.{Window}
 use Rattle.search.specs.declared.walk.Tally.{Tally}
 use Rattle.search.specs.Windows.{Fits, Apart, end, last-end, first-start, latest, starts-before}
 use Rattle.search.specs.Drawn.{drawn, entry, inserted-at}
-use Rattle.std.specs.declared.result.Result.{Result}
 use Rattle.std.specs.declared.result.Result.the-variants.{Ok, Err}
-use Rattle.search.specs.declared.fault.SearchFault.{SearchFault}
 use Rattle.search.specs.declared.fault.SearchFault.the-variants.{Late, TooLong}
 use Rattle.search.specs.Search.{most-entries, placed-next}
 use Rattle.search.specs.Tallies.{FitsJob, Tallied, standing}

@@ -1,23 +1,23 @@
 -- What is left of a queue's packets, from the next packet of each flow on. Assumes nothing.
 use mathlib.Core.Path.{_≡_, refl, sym, ap, subst, _∙_}
-use mathlib.Core.List.{List, [], _∷_, _++_, map}
-use mathlib.Core.Bool.{Bool, true, false, cond, not, _&&_, _||_}
+use mathlib.Core.List.{List, [], _∷_, map}
+use mathlib.Core.Bool.{Bool, true, false, cond, _||_}
 use mathlib.Core.Logic.{_⊎_, inl, inr, ⊎-elim}
 use Prim.Native.Nat.{ℕ, zero, suc, _+_, _≤_, _<_}
 use native.Mathlib.Omega.{arith}
 use lib.Dec.{eqb, leb}
-use lib.ListN.{length, take, drop}
-use Rattle.std.specs.shelf.Lists.{All, kept-by}
+use lib.ListN.{length, take}
+use Rattle.std.specs.shelf.Lists.{All}
 use Rattle.std.proofs.shelf.Elements.{all-weaker}
-use Rattle.std.proofs.shelf.Tests.{cases-bool, cases-eq, cases-lt, cases-order, both-ways, and-parts, and-from, and-left, and-right, or-left, or-right, or-cases, or-parts, not-true, not-from-false, eq-eqb, ne-eqb, eqb-true, le-leb, lt-leb, leb-true}
+use Rattle.std.proofs.shelf.Tests.{cases-bool, cases-eq, cases-lt, cases-order, both-ways, and-parts, and-from, and-left, and-right, or-left, or-cases, or-parts, not-true, not-from-false, eq-eqb, ne-eqb, eqb-true, le-leb, lt-leb, leb-true}
 use Rattle.traffic.specs.declared.packet.Job.{Job}
 use Rattle.traffic.specs.Packets.{Traffic, flow-at, arrival, queue-of, job}
 use Rattle.traffic.specs.Orders.{queue-before}
 use Rattle.traffic.proofs.Total.{queue-order}
 use Rattle.sheet.specs.Ranges.{all-kept}
-use Rattle.table.specs.Order.{in-order, none-before, before-each, placed-last}
+use Rattle.table.specs.Order.{none-before, before-each, placed-last}
 use Rattle.search.specs.declared.coming.Next.{Next}
-use Rattle.search.specs.Coming.{next-before, next-of, packet-of, waits-in, Due, NextDue, NoneDue, Joins, Built, Stepped, OtherFlow, Once, Lined}
+use Rattle.search.specs.Coming.{next-before, next-of, packet-of, waits-in, Due, Joins, Built, Stepped, OtherFlow, Lined}
 use Rattle.search.specs.Packets.{packets-before}
 use Rattle.search.specs.Left.{at-or-after, to-come, left}
 use Rattle.search.proofs.Rising.{In, all-in, kept-first, kept-head, kept-all, kept-none}
@@ -63,7 +63,7 @@ after-other x n h = and-left (eqb (n .packet .flow) (x .flow)) (leb (n .packet .
 
 module _ (s : Traffic) (long q : ℕ) (kept : all-kept (s .rate) (s .flows) ≡ true) where
   -- a packet is what its flow and number say
-  due-same : (x z : Job) → Due s long q x → Due s long q z → z .flow ≡ x .flow → z .number ≡ x .number → z ≡ x
+  pub due-same : (x z : Job) → Due s long q x → Due s long q z → z .flow ≡ x .flow → z .number ≡ x .number → z ≡ x
   due-same x z d e f n =
       e .is ∙ ap (λ (i : ℕ). job (s .rate) i (flow-at (s .flows) i) (z .number)) f ∙ ap (job (s .rate) (x .flow) (flow-at (s .flows) (x .flow))) n ∙ sym (d .is)
 

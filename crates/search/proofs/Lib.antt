@@ -1,3 +1,4 @@
+-- Lemmas of the search.
 pub mod Entries
 pub mod Behind
 pub mod Numbers

@@ -1,11 +1,11 @@
 -- What is known of the walk's next window. Assumes nothing.
-use mathlib.Core.Path.{_≡_, refl, sym, ap, subst, _∙_}
-use mathlib.Core.List.{List, [], _∷_, _++_, map}
-use mathlib.Core.Bool.{Bool, true, false, cond}
+use mathlib.Core.Path.{_≡_, refl, sym, ap, subst}
+use mathlib.Core.List.{List, [], _∷_}
+use mathlib.Core.Bool.{Bool, true}
 use mathlib.Core.Logic.{⊎-elim}
-use Prim.Native.Nat.{ℕ, zero, suc, _+_, _-_, _≤_, _<_, max, min}
+use Prim.Native.Nat.{ℕ, zero, suc, _-_, _≤_, _<_, max}
 use native.Mathlib.Omega.{arith}
-use lib.Dec.{leb, eqb}
+use lib.Dec.{leb}
 use lib.ListN.{take}
 use Rattle.std.specs.shelf.Lists.{All}
 use Rattle.std.specs.Options.{Cases}
@@ -19,13 +19,12 @@ use Rattle.sheet.specs.Ranges.{all-kept}
 use Rattle.search.specs.declared.coming.Next.{Next}
 use Rattle.search.specs.declared.queues.Queues.{Queues}
 use Rattle.search.specs.declared.window.Window.{Window}
-use Rattle.search.specs.Windows.{latest}
 use Rattle.search.specs.Coming.{Due, Comes, Lined, Stepped, held, packet-of}
 use Rattle.search.specs.Search.{firsts, first-of, sooner, arrived, least-arrival, window-at, next}
 use Rattle.search.specs.Queues.{queue-at, nexts, AllCome, AllBuilt, OthersStay}
 use Rattle.search.specs.Tallies.{FitsJob}
-use Rattle.search.proofs.Dues.{DueBounds, due-bounds}
-use Rattle.search.proofs.Steps.{Step, stepped, built-lined}
+use Rattle.search.proofs.Dues.{due-bounds}
+use Rattle.search.proofs.Steps.{stepped, built-lined}
 
 -- what holds of two packets holds of the sooner one
 sooner-all : (P : Job → Type 0) (b : Job → Job → Bool) (x : Job) (o : Option Job) → P x → ((y : Job) → o ≡ Some y → P y) → P (sooner b x o)

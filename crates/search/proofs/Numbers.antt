@@ -1,11 +1,11 @@
 -- The next number at a place of the pattern. Assumes nothing.
-use mathlib.Core.Path.{_≡_, refl, sym, ap, subst, _∙_}
-use mathlib.Core.Bool.{Bool, true, false, not, cond}
+use mathlib.Core.Path.{_≡_, sym, ap, _∙_}
+use mathlib.Core.Bool.{Bool, false, not}
 use mathlib.Core.Logic.{⊎-elim}
 use Prim.Native.Nat.{ℕ, _+_, _-_, _%_, _≤_, _<_}
 use native.Mathlib.Omega.{arith}
 use native.Mathlib.Nat.{mod-lt, mod-add-mod, mod-eq-of-lt, mod-self}
-use lib.Dec.{leb, eqb}
+use lib.Dec.{leb}
 use Rattle.std.proofs.shelf.Tests.{le-leb, lt-leb, cases-bool}
 use Rattle.std.proofs.shelf.Ways.{tells}
 use Rattle.traffic.specs.declared.flow.Flow.{Flow}

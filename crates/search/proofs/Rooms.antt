@@ -1,21 +1,19 @@
 -- The room that a packet has among windows. Assumes nothing.
-use mathlib.Core.Path.{_≡_, refl, sym, ap, subst, _∙_}
-use mathlib.Core.List.{List, [], _∷_, _++_}
-use mathlib.Core.Bool.{Bool, true, false, cond}
-use mathlib.Core.Logic.{⊎-elim}
+use mathlib.Core.Path.{_≡_, refl, sym, ap, _∙_}
+use mathlib.Core.List.{List, [], _∷_}
 use Prim.Native.Nat.{ℕ, zero, suc, _+_, _-_, _≤_, _<_, max}
 use native.Mathlib.Omega.{arith}
 use lib.Dec.{leb}
 use lib.ListN.{length, take, drop, getD}
 use Rattle.std.specs.shelf.Lists.{All}
-use Rattle.std.proofs.shelf.Lists.{at-drop-more, at-drop-all}
-use Rattle.std.proofs.shelf.Elements.{all-getD, all-more}
-use Rattle.std.proofs.shelf.Tests.{cases-bool, le-leb, lt-leb, cond-both}
+use Rattle.std.proofs.shelf.Lists.{at-drop-more}
+use Rattle.std.proofs.shelf.Elements.{all-getD}
+use Rattle.std.proofs.shelf.Tests.{le-leb, lt-leb, cond-both}
 use Rattle.search.specs.declared.window.Window.{Window}
-use Rattle.search.specs.Windows.{Fits, end, last-end, first-start, latest}
+use Rattle.search.specs.Windows.{Fits, end, last-end, latest}
 use Rattle.search.specs.Search.{room}
-use Rattle.search.specs.Trials.{EndsBy, Passed}
-use Rattle.search.proofs.Entries.{no-window, last-end-take}
+use Rattle.search.specs.Trials.{EndsBy}
+use Rattle.search.proofs.Entries.{no-window}
 
 -- windows that end by t have their last end by t
 pub last-end-passed : (t a : ℕ) (ws : List Window) → a ≤ t → All (EndsBy t) ws → last-end a ws ≤ t

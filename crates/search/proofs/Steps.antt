@@ -1,12 +1,11 @@
 -- What a queue holds stays lined up as packets are taken and join. Assumes nothing.
 use mathlib.Core.Path.{_≡_, refl, sym, ap, subst, _∙_}
 use mathlib.Core.List.{List, [], _∷_}
-use mathlib.Core.Bool.{Bool, true, false, cond, not}
+use mathlib.Core.Bool.{Bool, true, false, cond}
 use mathlib.Core.Logic.{_⊎_, inl, inr, ⊎-elim}
 use Prim.Native.Nat.{ℕ, zero, suc, _+_, _-_, _*_, _≤_, _<_}
 use native.Mathlib.Omega.{arith}
 use native.Mathlib.Nat.{add-mul}
-use lib.Dec.{ltb}
 use lib.ListN.{length}
 use Rattle.std.specs.shelf.Lists.{All}
 use Rattle.std.proofs.shelf.Elements.{all-weaker}
@@ -14,7 +13,7 @@ use Rattle.std.proofs.shelf.Tests.{cases-bool, and-parts, not-true, or-parts, l
 use Rattle.traffic.specs.declared.packet.Job.{Job}
 use Rattle.traffic.specs.Packets.{Traffic, flow-at, arrival}
 use Rattle.traffic.specs.Orders.{queue-before}
-use Rattle.table.specs.Order.{in-order, none-before, before-each, placed-last, placed}
+use Rattle.table.specs.Order.{in-order, none-before, before-each, placed-last}
 use Rattle.table.proofs.Places.{placed-last-is, in-order-placed}
 use Rattle.search.specs.declared.coming.Next.{Next}
 use Rattle.search.specs.Coming.{next-before, next-of, Due, NextDue, Joins, Built, Stepped, OtherFlow, Once, Lined, work}

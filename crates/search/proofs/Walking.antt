@@ -1,13 +1,13 @@
 -- The walk by what is left of the queues. Assumes nothing.
 use mathlib.Core.Path.{_≡_, refl, sym, ap, subst, _∙_}
-use mathlib.Core.List.{List, [], _∷_, _++_, map}
-use mathlib.Core.Bool.{Bool, true, false, cond}
-use mathlib.Core.Logic.{_⊎_, inl, inr, ⊎-elim}
+use mathlib.Core.List.{List, [], _∷_, _++_}
+use mathlib.Core.Bool.{Bool, true, cond}
+use mathlib.Core.Logic.{_⊎_, ⊎-elim}
 use Prim.Native.Nat.{ℕ, zero, suc, _+_, _≤_, _<_}
 use native.Mathlib.Omega.{arith}
-use lib.Dec.{eqb, leb, ltb}
+use lib.Dec.{ltb}
 use lib.ListN.{length, take, drop}
-use Rattle.std.specs.shelf.Lists.{All, kept-by}
+use Rattle.std.specs.shelf.Lists.{All}
 use Rattle.std.specs.Options.{Cases}
 use Rattle.std.proofs.shelf.Elements.{all-weaker, all-kept-by}
 use Rattle.std.proofs.shelf.Tests.{cases-bool, cases-eq, cases-lt, eq-eqb, ne-eqb, ltb-true, ltb-false}
@@ -28,8 +28,8 @@ use Rattle.search.specs.Faults.{InWalk}
 use Rattle.search.specs.Windows.{end}
 use Rattle.search.specs.Drawn.{drawn}
 use Rattle.search.proofs.Inserts.{placed-late, placed-long, placed-ok}
-use Rattle.search.specs.Coming.{Due, Lined, Stepped, Built, held, packet-of}
-use Rattle.search.specs.Search.{most-entries, firsts, next, without, placed-next, and-then, turn, walked, walked-over, count, admitted, tried, Cycle, planned-list}
+use Rattle.search.specs.Coming.{Due, Stepped, held}
+use Rattle.search.specs.Search.{most-entries, firsts, next, without, placed-next, and-then, turn, walked, walked-over, count, admitted, Cycle, planned-list}
 use Rattle.search.specs.Queues.{queue-at, no-queue, nexts, AllCome, AllBuilt, OthersStay}
 use Rattle.search.specs.Packets.{packets-before}
 use Rattle.search.specs.Left.{to-come, left, lefts}

@@ -1,14 +1,17 @@
 -- What the faults of a search stand for. Assumes nothing.
 use Prim.Native.Nat.{ℕ}
+use Rattle.refusal.specs.declared.Refusal.{Refusal}
+use Rattle.refusal.specs.Told.{plain}
 use Rattle.search.specs.declared.fault.SearchFault.{SearchFault}
 use Rattle.search.specs.declared.fault.SearchFault.the-variants.{EmptySheet, LittleMemory, Late, TooLong}
 
--- the refusal that a fault is: which one on the list of refusals, its place and its number
-abbrev pub refusal-of : SearchFault → ℕ × ℕ × ℕ
-refusal-of EmptySheet = (7, 0, 0)
-refusal-of LittleMemory = (8, 0, 0)
-refusal-of (Late flow number) = (9, flow, number)
-refusal-of (TooLong flow number) = (10, flow, number)
+-- 7: the sheet has no flows; 8: too little memory; 9: a packet of the walk is late; 10: its window makes the list too long.
+-- The place is the packet's flow, the number its number in the cycle
+abbrev pub search-refusal : SearchFault → Refusal
+search-refusal EmptySheet = plain 7
+search-refusal LittleMemory = plain 8
+search-refusal (Late flow number) = record { code = 9; place = flow; number = number }
+search-refusal (TooLong flow number) = record { code = 10; place = flow; number = number }
 
 -- the walk stopped at a packet
 abbrev pub InWalk : SearchFault → Type 0

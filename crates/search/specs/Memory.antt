@@ -15,7 +15,7 @@ use Rattle.search.specs.declared.fault.SearchFault.the-variants.{EmptySheet, L
 use Rattle.search.specs.Faults.{unless-begun}
 use Rattle.search.specs.Drawn.{Wrote}
 use Rattle.search.specs.Search.{most-entries, planned-list}
-use Rattle.search.specs.Packets.{cycle-of}
+use Rattle.search.specs.Packets.{cycle-packets}
 use Rattle.gates.specs.declared.entry.Entry.{Entry}
 use Rattle.search.specs.declared.window.Window.{Window}
 
@@ -32,7 +32,7 @@ abbrev pub found : (Job → Job → Bool) → Sheet → (entries windows : ℕ) 
 found before s entries windows =
     cond (eqb (length (traffic-of s .flows)) 0) (Err EmptySheet)
     (cond (ltb entries most-entries || ltb windows most-entries) (Err LittleMemory)
-    (planned-list before (cycle-of s)))
+    (planned-list before (cycle-packets s)))
 
 -- what the search answers: the length of the list
 abbrev pub answer-of : Result (List Entry) SearchFault → Result ℕ SearchFault
@@ -48,6 +48,12 @@ list-after (Err e) old = unless-begun e old (replicate (length old) no-entry)
 abbrev pub windows-after : Result (List Entry) SearchFault → List Window → List Window
 windows-after (Ok list) old = replicate (length old) no-window
 windows-after (Err e) old = unless-begun e old (replicate (length old) no-window)
+
+-- what a search answers, and the list and window memory after it
+pub record Searched (before : Job → Job → Bool) (s : Sheet) (entries : List Entry) (places : List Window) (r : Result ℕ SearchFault) (entries′ : List Entry) (places′ : List Window) : Type 0 where
+  pub value : r ≡ answer-of (found before s (length entries) (length places))
+  pub list : entries′ ≡ list-after (found before s (length entries) (length places)) entries
+  pub windows : places′ ≡ windows-after (found before s (length entries) (length places)) places
 
 -- the planned list was drawn at the start of the memory
 pub record Planned (r : Result (List Entry) SearchFault) (n : ℕ) (before after : List Entry) : Type 0 where

@@ -1,10 +1,8 @@
 -- The packets of a cycle, queue by queue. Assumes nothing.
-use mathlib.Core.Path.{_≡_}
 use mathlib.Core.List.{List, [], _∷_, _++_}
-use mathlib.Core.Bool.{Bool, cond, _&&_, _||_, false}
+use mathlib.Core.Bool.{Bool, cond, _&&_}
 use Prim.Native.Nat.{ℕ, zero, suc, _+_, _/_, _%_}
-use lib.Dec.{eqb, leb}
-use Rattle.std.specs.shelf.Lists.{kept-by}
+use lib.Dec.{eqb}
 use Rattle.traffic.specs.declared.rate.Rate.{Rate}
 use Rattle.traffic.specs.declared.flow.Flow.{Flow}
 use Rattle.traffic.specs.declared.packet.Job.{Job}
@@ -35,8 +33,8 @@ packets-before s q zero = []
 packets-before s q (suc t) = packets-before s q t ++ in-queue-order (arriving (s .rate) q t 1 (s .flows))
 
 -- the packets of the sheet's cycle: those of queue 0 are the optional ones
-abbrev pub cycle-of : Sheet → Cycle
-cycle-of s = record {
+abbrev pub cycle-packets : Sheet → Cycle
+cycle-packets s = record {
   long = s .cycle;
   mandatory = λ q. packets-before (traffic-of s) q (s .cycle);
   optional = packets-before (traffic-of s) 0 (s .cycle);

@@ -1,8 +1,8 @@
 -- The packets of all queues that are still to come. Assumes nothing.
 use mathlib.Core.Path.{_≡_}
-use mathlib.Core.List.{List, [], _∷_, _++_, map}
+use mathlib.Core.List.{List, [], _∷_, map}
 use mathlib.Core.Bool.{Bool, cond}
-use Prim.Native.Nat.{ℕ, zero, suc, _+_, _≤_, _<_, min}
+use Prim.Native.Nat.{ℕ, _≤_, _<_, min}
 use lib.Dec.{leb}
 use lib.ListN.{length, getD}
 use Rattle.std.specs.declared.option.Option.{Option}
@@ -10,9 +10,8 @@ use Rattle.std.specs.declared.option.Option.the-variants.{Some, None}
 use Rattle.traffic.specs.declared.packet.Job.{Job}
 use Rattle.traffic.specs.Packets.{Traffic}
 use Rattle.search.specs.declared.coming.Queue.{Queue}
-use Rattle.search.specs.declared.coming.Next.{Next}
 use Rattle.search.specs.declared.queues.Queues.{Queues}
-use Rattle.search.specs.Coming.{Built, Stepped, Comes, held, packet-of}
+use Rattle.search.specs.Coming.{Built, Comes, held, packet-of}
 use Rattle.search.specs.Search.{least-arrival, sooner}
 
 -- stands where no queue is

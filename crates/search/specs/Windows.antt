@@ -1,10 +1,8 @@
 -- Packets on the wire. Assumes nothing.
-use mathlib.Core.Path.{_≡_}
 use mathlib.Core.List.{List, [], _∷_}
 use mathlib.Core.Bool.{Bool}
 use Prim.Native.Nat.{ℕ, _+_, _≤_, _<_}
 use lib.Dec.{ltb}
-use Rattle.traffic.specs.declared.packet.Job.{Job}
 use Rattle.search.specs.declared.window.Window.{Window}
 
 -- the first instant after it

@@ -1,6 +1,7 @@
 // Why a search draws no list.
 ghost use mathlib.Core.Path.{_≡_};
-ghost use Rattle.search.specs.Faults.{refusal-of};
+ghost use Rattle.search.specs.Faults.{search-refusal};
+use refusal::Refusal;
 
 // Why a search draws no list. A late packet, and one whose window makes the list too long,
 // are named by their flow and their number in the cycle.
@@ -13,15 +14,20 @@ pub enum SearchFault {
 }
 
 impl SearchFault {
-    // The refusal's number, its place and the number at that place.
-    pub fn numbers(self) -> (u8, u32, u64)
-        ensures { λ r. ⌜ r ≡ refusal-of self ⌝ }
+    // The refusal that a fault stands for.
+    pub fn refusal(self) -> Refusal
+        ensures { λ r. ⌜ r ≡ search-refusal self ⌝ }
     {
-        match self {
+        let (code, place, number) = match self {
             SearchFault::EmptySheet => (7, 0, 0),
             SearchFault::LittleMemory => (8, 0, 0),
             SearchFault::Late(flow, number) => (9, flow as u32, number),
             SearchFault::TooLong(flow, number) => (10, flow as u32, number),
+        };
+        Refusal {
+            code,
+            place,
+            number,
         }
     }
 }

@@ -1,10 +1,10 @@
 // The search for a gate list: a walk over the mandatory packets, then a trial of each optional one.
-pub mod coming;
-pub mod drawing;
+mod coming;
+mod drawing;
 pub mod fault;
-pub mod queues;
+mod queues;
 pub mod search;
 pub mod serving;
 mod trials;
-pub mod walk;
+mod walk;
 pub mod window;

@@ -5,8 +5,8 @@ ghost use lib.ListN.{length, take, replicate};
 ghost use Rattle.std.specs.Results.{Cases};
 ghost use Rattle.std.specs.declared.result.Result.the-variants.{Err};
 ghost use Rattle.search.specs.Search.{planned-list};
-ghost use Rattle.search.specs.Packets.{cycle-of};
-ghost use Rattle.search.specs.Memory.{zero-from, zero-windows, Planned, found, answer-of, list-after, windows-after};
+ghost use Rattle.search.specs.Packets.{cycle-packets};
+ghost use Rattle.search.specs.Memory.{zero-from, zero-windows, Planned, Searched};
 use crate::drawing::draw;
 use crate::fault::SearchFault;
 use crate::queues::Queues;
@@ -71,8 +71,8 @@ fn planned<O: ServingOrder>(
 ) -> Result<usize, SearchFault>
     requires memory { ⌜ (1024 ≤ length (now list)) × (1024 ≤ length (now windows)) ⌝ }
     ensures { λ r. ⌜ Cases r
-        (λ n. Planned (planned-list (before (now (order .entry))) (cycle-of (now (sheet .entry)))) n (now (list .entry)) (now (list .exit)))
-        (λ e. planned-list (before (now (order .entry))) (cycle-of (now (sheet .entry))) ≡ Err e) ⌝ }
+        (λ n. Planned (planned-list (before (now (order .entry))) (cycle-packets (now (sheet .entry)))) n (now (list .entry)) (now (list .exit)))
+        (λ e. planned-list (before (now (order .entry))) (cycle-packets (now (sheet .entry))) ≡ Err e) ⌝ }
 {
     let mut queues = Queues::of(sheet);
     let placed = walk(sheet, order, &mut queues, windows)?;
@@ -89,9 +89,7 @@ pub fn search<O: ServingOrder>(
     list: &mut [Entry],
     windows: &mut [Window],
 ) -> Result<usize, SearchFault>
-    ensures value { λ r. ⌜ r ≡ answer-of (found (before (now (order .entry))) (now (sheet .entry)) (length (now (list .entry))) (length (now (windows .entry)))) ⌝ }
-    ensures list { λ _. ⌜ now (list .exit) ≡ list-after (found (before (now (order .entry))) (now (sheet .entry)) (length (now (list .entry))) (length (now (windows .entry)))) (now (list .entry)) ⌝ }
-    ensures windows { λ _. ⌜ now (windows .exit) ≡ windows-after (found (before (now (order .entry))) (now (sheet .entry)) (length (now (list .entry))) (length (now (windows .entry)))) (now (windows .entry)) ⌝ }
+    ensures { λ r. ⌜ Searched (before (now (order .entry))) (now (sheet .entry)) (now (list .entry)) (now (windows .entry)) r (now (list .exit)) (now (windows .exit)) ⌝ }
 {
     if sheet.flows().len() == 0 {
         return Err(SearchFault::EmptySheet);

@@ -7,9 +7,9 @@ ghost use Rattle.std.specs.shelf.Lists.{All};
 ghost use Rattle.sheet.specs.Contents.{traffic-of};
 ghost use Rattle.search.specs.Windows.{Fits, latest};
 ghost use Rattle.search.specs.Queues.{AllCome};
-ghost use Rattle.search.specs.Left.{lefts};
+ghost use Rattle.search.specs.Left.{trials-of};
 ghost use Rattle.search.specs.Tallies.{FitsJob, Tallied, standing};
-ghost use Rattle.search.specs.Search.{admitted-end, tried, admitted};
+ghost use Rattle.search.specs.Search.{admitted-end, tried};
 ghost use Rattle.search.specs.Trials.{Passed, HasRoom, NoRoom, Tried};
 use crate::drawing::entries_with;
 use crate::queues::Queues;
@@ -123,7 +123,7 @@ pub fn admit(sheet: &Sheet, queues: &mut Queues, windows: &mut [Window], tally: 
     requires tally { ⌜ Tallied (now sheet .cycle) (now windows) tally ⌝ }
     requires none { ⌜ admitted-end (standing (now windows) tally) ≡ 0 ⌝ }
     ensures tallied { λ r. ⌜ Tallied (now (sheet .entry) .cycle) (now (windows .exit)) r ⌝ }
-    ensures value { λ r. ⌜ standing (now (windows .exit)) r ≡ admitted (now (sheet .entry) .cycle) (lefts (traffic-of (now (sheet .entry))) (now (sheet .entry) .cycle) (now (queues .entry)) 0) (standing (now (windows .entry)) tally) ⌝ }
+    ensures value { λ r. ⌜ standing (now (windows .exit)) r ≡ trials-of (now (sheet .entry)) (now (queues .entry)) (standing (now (windows .entry)) tally) ⌝ }
 {
     let cycle = sheet.cycle();
     let mut trials = Trials {

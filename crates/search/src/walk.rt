@@ -2,16 +2,15 @@
 ghost use mathlib.Core.Path.{_≡_};
 ghost use Prim.Native.Nat.{ℕ, _+_, _≤_, _<_};
 ghost use mathlib.Core.Bool.{cond};
-ghost use mathlib.Core.List.{[]};
 ghost use lib.Dec.{ltb};
 ghost use lib.ListN.{length};
 ghost use Rattle.std.specs.Results.{Cases};
 ghost use Rattle.std.specs.declared.result.Result.the-variants.{Ok, Err};
 ghost use Rattle.sheet.specs.Contents.{traffic-of};
 ghost use Rattle.search.specs.Windows.{last-end, latest};
-ghost use Rattle.search.specs.Search.{placed-next, admitted-end, walked-over};
+ghost use Rattle.search.specs.Search.{placed-next, admitted-end};
 ghost use Rattle.search.specs.Queues.{AllCome, queue-at};
-ghost use Rattle.search.specs.Left.{lefts};
+ghost use Rattle.search.specs.Left.{walk-of};
 ghost use Rattle.search.specs.Tallies.{FitsJob, Tallied, standing};
 use crate::drawing::entries_with;
 use crate::fault::SearchFault;
@@ -89,8 +88,8 @@ pub fn walk<O: ServingOrder>(
     ensures value { λ r. ⌜ Cases r
         (λ t. Tallied (now (sheet .entry) .cycle) (now (windows .exit)) t
         × (admitted-end (standing (now (windows .exit)) t) ≡ 0)
-        × (walked-over (before (now (order .entry))) (now (sheet .entry) .cycle) 0 (lefts (traffic-of (now (sheet .entry))) (now (sheet .entry) .cycle) (now (queues .entry))) [] ≡ Ok (standing (now (windows .exit)) t)))
-        (λ e. walked-over (before (now (order .entry))) (now (sheet .entry) .cycle) 0 (lefts (traffic-of (now (sheet .entry))) (now (sheet .entry) .cycle) (now (queues .entry))) [] ≡ Err e) ⌝ }
+        × (walk-of (before (now (order .entry))) (now (sheet .entry)) (now (queues .entry)) ≡ Ok (standing (now (windows .exit)) t)))
+        (λ e. walk-of (before (now (order .entry))) (now (sheet .entry)) (now (queues .entry)) ≡ Err e) ⌝ }
     ensures come { λ _. ⌜ AllCome (traffic-of (now (sheet .entry))) (now (sheet .entry) .cycle) (now (queues .exit)) ⌝ }
     ensures optional { λ _. ⌜ queue-at (now (queues .exit)) 0 ≡ queue-at (now (queues .entry)) 0 ⌝ }
 {

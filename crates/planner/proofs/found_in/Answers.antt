@@ -18,10 +18,10 @@ pub returns-in-Ok : need.returns-in-Ok
 returns-in-Ok c =
     let s = c .args .sheet .now in
     let old = c .args .list .now in
-    let after = c .search .last .list in
+    let after = c .lawful-search .last .list in
     let n = c .in-Ok .n in
     let r = found deadline-monotonic s (length old) (length (c .args .windows .now)) in
-    let list = found-list r n old after (c .in-Ok .ensures tt .value) (c .in-Ok .ensures tt .list) in
+    let list = found-list r n old after (c .in-Ok .ensures tt .searched .value) (c .in-Ok .ensures tt .searched .list) in
     let same = found-is deadline-monotonic s (length old) (length (c .args .windows .now)) (c .pre .some) (c .pre .memory .0) (c .pre .memory .1) in
     let whole : n - 0 ≡ n = omega arith in
     let part : written (take (n - 0) after) (write-fault (take (n - 0) after) 30720) ≡ written (take n after) (write-fault (take n after) 30720) = ap (λ (m : ℕ). written (take m after) (write-fault (take m after) 30720)) whole in
@@ -31,6 +31,6 @@ pub returns-in-Err : need.returns-in-Err
 returns-in-Err c =
     let s = c .args .sheet .now in
     let r = found deadline-monotonic s (length (c .args .list .now)) (length (c .args .windows .now)) in
-    let fault = found-fault r (c .in-Err .fault) (c .in-Err .ensures tt .value) in
+    let fault = found-fault r (c .in-Err .fault) (c .in-Err .ensures tt .searched .value) in
     let same = found-is deadline-monotonic s (length (c .args .list .now)) (length (c .args .windows .now)) (c .pre .some) (c .pre .memory .0) (c .pre .memory .1) in
-    made-same (c .refused .result) _ _ (ap refusal-text (c .told .ensures) ∙ sym fault ∙ ap search-answer same) (c .refused .ensures)
+    made-same (c .refused .result) _ _ (ap refusal-text (c .refusal .ensures) ∙ sym fault ∙ ap search-answer same) (c .refused .ensures)

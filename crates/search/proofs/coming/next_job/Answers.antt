@@ -1,20 +1,19 @@
 -- The next packet of a flow, if it arrives in the cycle.
-use mathlib.Core.Path.{_≡_, refl, sym, ap, subst, _∙_}
-use mathlib.Core.Bool.{Bool, false}
-use Prim.Native.Nat.{ℕ, _+_, _-_, _^_, _≤_, _<_}
+use mathlib.Core.Path.{_≡_, sym, ap, subst, _∙_}
+use mathlib.Core.Bool.{false}
+use Prim.Native.Nat.{_+_, _-_, _^_, _≤_, _<_}
 use native.Mathlib.Omega.{arith}
 use lib.Dec.{ltb}
 use lib.ListN.{length, getD}
 use Rattle.std.proofs.shelf.Tests.{ltb-false}
 use Rattle.std.specs.Options.{Cases}
 use Rattle.std.specs.declared.option.Option.{Option}
-use Rattle.std.specs.declared.option.Option.the-variants.{None}
 use Rattle.traffic.specs.declared.flow.Flow.{Flow}
 use Rattle.traffic.specs.declared.packet.Job.{Job}
 use Rattle.traffic.specs.Packets.{no-flow, flow-at, arrival, job}
 use Rattle.sheet.specs.Contents.{traffic-of}
 use Rattle.search.specs.Coming.{FirstFrom, NoneFrom, waits-in, NextDue, NoneDue}
-use Rattle.search.proofs.Kept.{Ranged, ranged-at}
+use Rattle.search.proofs.Kept.{ranged-at}
 use Rattle.search.proofs.Dues.{flow-at-getD, some-of, none-of, none-due, late-due, next-due}
 use Rattle.search.proofs.coming.next_job.Needs as need
 

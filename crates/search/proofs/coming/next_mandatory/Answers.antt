@@ -1,8 +1,7 @@
 -- The next mandatory packet by its place in the pattern.
-use mathlib.Core.Path.{_≡_, subst}
-use mathlib.Core.Bool.{Bool}
+use mathlib.Core.Path.{subst}
 use native.Mathlib.Omega.{arith}
-use Prim.Native.Nat.{ℕ, _+_, _-_, _%_, _<_, _≤_}
+use Prim.Native.Nat.{ℕ, _+_, _-_, _%_}
 use Rattle.search.specs.Coming.{FirstFrom}
 use Rattle.search.proofs.Numbers.{falls, falls-again}
 use Rattle.search.proofs.coming.next_mandatory.Needs as need

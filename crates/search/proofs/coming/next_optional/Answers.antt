@@ -1,8 +1,8 @@
 -- The next optional packet by its place in the pattern.
-use mathlib.Core.Path.{_≡_, subst}
-use mathlib.Core.Bool.{Bool, not}
+use mathlib.Core.Path.{subst}
+use mathlib.Core.Bool.{not}
 use native.Mathlib.Omega.{arith}
-use Prim.Native.Nat.{ℕ, _+_, _-_, _%_, _<_, _≤_}
+use Prim.Native.Nat.{ℕ, _+_, _-_, _%_}
 use Rattle.search.specs.Coming.{FirstFrom}
 use Rattle.search.proofs.Numbers.{falls, fails-again}
 use Rattle.search.proofs.coming.next_optional.Needs as need

@@ -1,7 +1,7 @@
 -- Window by window, what is drawn and what is left give the whole list.
-use mathlib.Core.Path.{_≡_, refl, sym, ap, subst, _∙_}
+use mathlib.Core.Path.{_≡_, ap, subst, _∙_}
 use mathlib.Core.List.{[], _∷_, _++_}
-use Prim.Native.Nat.{ℕ, _+_, _-_, _<_, _≤_}
+use Prim.Native.Nat.{ℕ, _+_, _-_, _≤_}
 use native.Mathlib.Omega.{arith}
 use lib.ListN.{length, take, drop, getD}
 use Rattle.std.proofs.shelf.Lists.{at-drop-more, at-drop-all}
@@ -9,7 +9,7 @@ use Rattle.std.proofs.shelf.Elements.{all-getD}
 use Rattle.gates.specs.declared.entry.Entry.{Entry}
 use Rattle.search.specs.Windows.{Fits, latest, end}
 use Rattle.search.specs.Drawn.{closed, entry, drawn, Wrote}
-use Rattle.search.proofs.Entries.{gap, no-window, length-closed, left-room, drawn-more, drawn-all}
+use Rattle.search.proofs.Entries.{no-window, length-closed, left-room, drawn-more, drawn-all}
 use Rattle.search.proofs.drawing.draw.Needs as need
 
 pub close-n-requires : need.close-n-requires

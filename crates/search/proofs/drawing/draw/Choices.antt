@@ -3,7 +3,6 @@ use mathlib.Core.Path.{_≡_}
 use mathlib.Core.List.{_++_}
 use Prim.Native.Nat.{_≤_}
 use lib.ListN.{length, take, drop}
-use Rattle.search.specs.Windows.{latest}
 use Rattle.search.specs.Drawn.{drawn}
 use Rattle.search.proofs.drawing.draw.Given as given
 

@@ -1,7 +1,7 @@
 -- The entries with one window more.
 use mathlib.Core.Path.{_≡_}
 use native.Mathlib.Omega.{arith}
-use Prim.Native.Nat.{_+_, _-_, _<_, _≤_}
+use Prim.Native.Nat.{_-_}
 use lib.ListN.{take, drop}
 use Rattle.search.specs.Windows.{end, last-end, first-start}
 use Rattle.search.proofs.Entries.{gap, length-inserted, gap-within}

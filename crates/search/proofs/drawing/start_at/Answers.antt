@@ -1,5 +1,5 @@
 -- The window at a place is the first of those from there on.
-use mathlib.Core.Path.{_≡_, sym}
+use mathlib.Core.Path.{sym}
 use Rattle.std.proofs.shelf.Lists.{at-drop-more, at-drop-all}
 use Rattle.search.specs.Windows.{first-start}
 use Rattle.search.proofs.Entries.{no-window}

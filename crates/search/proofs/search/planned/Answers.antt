@@ -1,23 +1,21 @@
 -- Walk, trials and drawing give the planned list.
-use mathlib.Core.Path.{_≡_, refl, sym, ap, subst, _∙_}
+use mathlib.Core.Path.{_≡_, sym, ap, subst, _∙_}
 use mathlib.Core.List.{List, []}
-use Prim.Native.Nat.{ℕ, _-_, _≤_}
+use Prim.Native.Nat.{ℕ, _-_}
 use native.Mathlib.Omega.{arith}
-use lib.ListN.{length, take}
+use lib.ListN.{take}
 use Rattle.std.proofs.shelf.Results.{err-from-errBy}
 use Rattle.std.specs.declared.result.Result.the-variants.{Ok, Err}
 use Rattle.traffic.specs.declared.packet.Job.{Job}
 use Rattle.gates.specs.declared.entry.Entry.{Entry}
 use Rattle.sheet.specs.Contents.{traffic-of}
 use Rattle.search.specs.declared.fault.SearchFault.{SearchFault}
-use Rattle.search.specs.declared.window.Window.{Window}
 use Rattle.search.specs.Drawn.{drawn, Wrote}
-use Rattle.search.specs.Search.{walked-over, admitted, planned-list}
-use Rattle.search.specs.Packets.{packets-before, cycle-of}
+use Rattle.search.specs.Search.{walked-over, admitted}
+use Rattle.search.specs.Packets.{packets-before, cycle-packets}
 use Rattle.search.specs.Left.{left, lefts}
 use Rattle.search.specs.Coming.{held}
 use Rattle.search.specs.Tallies.{standing}
-use Rattle.search.specs.Memory.{Planned}
 use Rattle.search.proofs.Nexts.{built-come}
 use Rattle.search.proofs.Walking.{lefts-all, planned-err, planned-ok}
 use Rattle.search.proofs.search.planned.Needs as need
@@ -34,7 +32,7 @@ returns-in-Break-placed g c =
     let p = err-from-errBy (c .from-residual .result) (c .from-residual .ensures .1) in
     let e : SearchFault = p .0 in
     let refused : walked-over b (s .cycle) 0 (λ q. packets-before t q (s .cycle)) [] ≡ Err e = sym (ap (λ (f : ℕ → List Job). walked-over b (s .cycle) 0 f []) all) ∙ c .in-Break-placed .ensures tt .value ∙ ap Err (sym (p .2)) in
-    rw (p .1) (planned-err b (cycle-of s) e refused)
+    rw (p .1) (planned-err b (cycle-packets s) e refused)
 
 pub returns : need.returns
 returns g c =
@@ -55,7 +53,7 @@ returns g c =
     let few = c .admit-tally .ensures .tallied .few in
     record {
       list = drawn 0 zs (s .cycle);
-      is = planned-ok b (cycle-of s) ws zs placed tried;
+      is = planned-ok b (cycle-packets s) ws zs placed tried;
       wrote = subst (λ (es : List Entry). Wrote es 0 (c .draw .result) (c .args .list .now) (c .draw .last .list)) same (c .draw .ensures);
       few = omega arith;
     }

@@ -1,21 +1,18 @@
 -- Packet by packet, in the order of their arrival.
 use mathlib.Core.Path.{_≡_, refl, sym, ap, subst, _∙_}
 use mathlib.Core.List.{List, [], _∷_}
-use Prim.Native.Nat.{ℕ, _+_, _≤_, _<_, max}
+use Prim.Native.Nat.{ℕ, _≤_, max}
 use native.Mathlib.Omega.{arith}
-use lib.ListN.{length}
 use Rattle.std.specs.shelf.Lists.{All}
 use Rattle.traffic.specs.declared.packet.Job.{Job}
 use Rattle.sheet.specs.Contents.{traffic-of}
 use Rattle.search.specs.declared.coming.Next.{Next}
-use Rattle.search.specs.Windows.{latest}
-use Rattle.search.specs.Coming.{Stepped, held, next-of}
+use Rattle.search.specs.Coming.{Stepped, held}
 use Rattle.search.specs.Queues.{queue-at}
 use Rattle.search.specs.Search.{admitted, tried}
 use Rattle.search.specs.Left.{left, lefts}
 use Rattle.search.specs.Tallies.{Tallied, standing}
-use Rattle.search.specs.Trials.{Passed, Tried}
-use Rattle.search.proofs.Steps.{Step, stepped, stepped-work}
+use Rattle.search.proofs.Steps.{stepped, stepped-work}
 use Rattle.search.proofs.Lefts.{left-step, left-none}
 use Rattle.search.proofs.Nexts.{due-fits, come-again}
 use Rattle.search.proofs.Admits.{passed-later}

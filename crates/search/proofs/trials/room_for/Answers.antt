@@ -1,12 +1,11 @@
 -- Window by window, where the packet has room.
-use mathlib.Core.Path.{_≡_, refl, sym, ap, subst, _∙_}
-use Prim.Native.Nat.{ℕ, _+_, _-_, _≤_, _<_, max}
+use mathlib.Core.Path.{_≡_, refl, sym, ap, _∙_}
+use Prim.Native.Nat.{ℕ, _+_, _-_, max}
 use native.Mathlib.Omega.{arith}
-use lib.ListN.{length, take, drop, getD}
+use lib.ListN.{take, drop, getD}
 use Rattle.std.proofs.shelf.Lists.{at-drop-more, at-drop-all}
-use Rattle.search.specs.Windows.{end, last-end, first-start, latest}
+use Rattle.search.specs.Windows.{end, first-start, latest}
 use Rattle.search.specs.Search.{room}
-use Rattle.search.specs.Trials.{HasRoom}
 use Rattle.search.proofs.Entries.{no-window, last-end-take}
 use Rattle.search.proofs.Rooms.{last-end-passed, room-from, room-at-more, room-at-here, fits-at}
 use Rattle.search.proofs.trials.room_for.Needs as need

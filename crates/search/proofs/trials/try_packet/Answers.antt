@@ -1,19 +1,19 @@
 -- One packet tried.
-use mathlib.Core.Path.{_≡_, refl, sym, ap, subst, _∙_}
+use mathlib.Core.Path.{_≡_, sym, ap, subst, _∙_}
 use mathlib.Core.List.{List}
-use Prim.Native.Nat.{ℕ, _+_, _-_, _≤_, _<_, max}
+use Prim.Native.Nat.{ℕ, _+_, _-_, max}
 use native.Mathlib.Omega.{arith}
-use lib.ListN.{length, take, drop}
+use lib.ListN.{length, take}
 use Rattle.std.specs.shelf.Lists.{All}
-use Rattle.std.proofs.shelf.Lists.{length-take-le, length-append, length-drop}
+use Rattle.std.proofs.shelf.Lists.{length-take-le}
 use Rattle.search.specs.declared.window.Window.{Window}
-use Rattle.search.specs.Windows.{Fits, end, latest}
+use Rattle.search.specs.Windows.{Fits, end}
 use Rattle.search.specs.Drawn.{drawn, inserted-at}
-use Rattle.search.specs.Search.{most-entries, admitted-end, trial, inserted, room}
+use Rattle.search.specs.Search.{admitted-end, trial, inserted, room}
 use Rattle.search.specs.Tallies.{standing}
 use Rattle.search.specs.Trials.{Passed, HasRoom, NoRoom, Tried}
 use Rattle.search.proofs.Inserts.{fewer-windows}
-use Rattle.search.proofs.Admits.{admitted-early, trial-start, tried-late, tried-long, tried-over, tried-in, Trying, trying, length-inserted-at}
+use Rattle.search.proofs.Admits.{admitted-early, trial-start, tried-late, tried-long, tried-over, tried-in, trying, length-inserted-at}
 use Rattle.search.proofs.trials.try_packet.Needs as need
 
 pub room-for-requires : need.room-for-requires

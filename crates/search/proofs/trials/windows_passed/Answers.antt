@@ -1,11 +1,10 @@
 -- One window more that ends by then.
-use mathlib.Core.Path.{_≡_}
-use Prim.Native.Nat.{_+_, _≤_, _<_}
+use Prim.Native.Nat.{_≤_, _<_}
 use native.Mathlib.Omega.{arith}
 use lib.ListN.{length, getD}
 use Rattle.std.proofs.shelf.Elements.{all-more}
-use Rattle.search.specs.Windows.{end, latest}
-use Rattle.search.specs.Trials.{EndsBy, Passed}
+use Rattle.search.specs.Windows.{end}
+use Rattle.search.specs.Trials.{EndsBy}
 use Rattle.search.proofs.Entries.{no-window}
 use Rattle.search.proofs.Rooms.{fits-at}
 use Rattle.search.proofs.trials.windows_passed.Needs as need

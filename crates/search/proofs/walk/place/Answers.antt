@@ -1,7 +1,7 @@
 -- One window more, by its entries.
-use mathlib.Core.Path.{_≡_, refl, sym, ap, subst, _∙_}
+use mathlib.Core.Path.{_≡_, sym, ap, subst, _∙_}
 use mathlib.Core.List.{List, [], _∷_, _++_}
-use Prim.Native.Nat.{ℕ, _+_, _-_, _≤_, _<_}
+use Prim.Native.Nat.{ℕ, _+_, _-_, _≤_}
 use native.Mathlib.Omega.{arith}
 use lib.ListN.{length, take, drop}
 use Rattle.std.proofs.shelf.Lists.{length-take-le, length-push, take-all, drop-all}
@@ -9,7 +9,6 @@ use Rattle.std.specs.declared.result.Result.the-variants.{Ok}
 use Rattle.search.specs.declared.window.Window.{Window}
 use Rattle.search.specs.Windows.{end, last-end, first-start, latest}
 use Rattle.search.specs.Drawn.{drawn, inserted-at}
-use Rattle.search.specs.Search.{most-entries}
 use Rattle.search.specs.Tallies.{standing}
 use Rattle.search.proofs.Inserts.{inserted-tally, inserted-end, placed-long, placed-ok, fewer-windows}
 use Rattle.search.proofs.walk.place.Needs as need

@@ -1,7 +1,7 @@
 -- Turn by turn, one window more.
 use mathlib.Core.Path.{_≡_, refl, sym, ap, subst, _∙_}
-use mathlib.Core.List.{List, [], _∷_, _++_}
-use Prim.Native.Nat.{ℕ, _+_, _-_, _≤_, _<_}
+use mathlib.Core.List.{List, []}
+use Prim.Native.Nat.{ℕ, _-_, _≤_, _<_}
 use native.Mathlib.Omega.{arith}
 use lib.Dec.{ltb}
 use lib.ListN.{length, take}
@@ -24,7 +24,7 @@ use Rattle.search.specs.Tallies.{Tallied, standing}
 use Rattle.search.proofs.Entries.{gap, last-end-push, length-closed}
 use Rattle.search.proofs.Inserts.{apart-ends, fewer-windows, placed-is}
 use Rattle.search.proofs.Admits.{admitted-none}
-use Rattle.search.proofs.Nexts.{NextFacts, next-facts, due-fits, come-again}
+use Rattle.search.proofs.Nexts.{next-facts, due-fits, come-again}
 use Rattle.search.proofs.Walking.{lefts-firsts, next-left, lefts-step, walked-ok, walked-err, walked-end}
 use Rattle.search.proofs.walk.walk.Needs as need
 

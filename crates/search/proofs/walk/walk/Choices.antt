@@ -4,7 +4,7 @@ use mathlib.Core.List.{[]}
 use Prim.Native.Nat.{_-_, _<_}
 use Rattle.std.specs.shelf.Lists.{All}
 use Rattle.sheet.specs.Contents.{traffic-of}
-use Rattle.search.specs.Windows.{last-end, latest}
+use Rattle.search.specs.Windows.{last-end}
 use Rattle.search.specs.Queues.{AllCome, queue-at}
 use Rattle.search.specs.Search.{walked-over}
 use Rattle.search.specs.Left.{lefts}

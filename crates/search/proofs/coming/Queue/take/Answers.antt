@@ -1,14 +1,11 @@
 -- The first packet to come has a flow of the sheet and a number in the cycle.
-use mathlib.Core.Path.{_≡_, subst}
-use mathlib.Core.List.{List, _∷_}
-use Prim.Native.Nat.{ℕ, _+_, _≤_, _<_}
+use mathlib.Core.Path.{subst}
 use native.Mathlib.Omega.{arith}
 use Rattle.std.specs.shelf.Lists.{All}
 use Rattle.sheet.specs.Contents.{traffic-of}
 use Rattle.search.specs.Coming.{Due, held}
 use Rattle.search.specs.declared.coming.Next.{Next}
-use Rattle.search.proofs.Dues.{DueBounds, due-bounds}
-use Rattle.search.proofs.Steps.{stepped}
+use Rattle.search.proofs.Dues.{due-bounds}
 use Rattle.search.proofs.coming.Queue.take.Needs as need
 
 pub add-packet : need.add-packet

@@ -1,5 +1,5 @@
 -- The next window from the least arrival and the packet served first.
-use mathlib.Core.Path.{_≡_, refl, sym, ap, _∙_}
+use mathlib.Core.Path.{_≡_, sym, ap, _∙_}
 use Prim.Native.Nat.{ℕ, max}
 use Rattle.std.specs.declared.option.Option.the-variants.{Some, None}
 use Rattle.search.specs.Search.{firsts, first-of, arrived, window-at}

@@ -1,6 +1,6 @@
 -- Queue by queue, the packet served first.
-use mathlib.Core.Path.{_≡_, refl, sym, ap, _∙_}
-use Prim.Native.Nat.{ℕ, _+_, _-_, _<_, _≤_}
+use mathlib.Core.Path.{_≡_, sym, ap, _∙_}
+use Prim.Native.Nat.{ℕ, _+_, _-_}
 use native.Mathlib.Omega.{arith}
 use Rattle.search.specs.Coming.{packet-of, held}
 use Rattle.search.specs.Search.{firsts, first-of, arrived}
