@@ -8,14 +8,14 @@ use crate::order::Ordered;
 
 // Does x go in front of y? Of equals the one that came first stays in front.
 fn goes_before<T: Ordered>(x: &T, y: &T) -> bool
-    ensures { result ≡ before x.now y.now }
+    ensures { result ≡ T.before x.now y.now }
 {
     x.precedes(y)
 }
 
 // Puts a record behind its equals, and answers the length after; refused, with nothing changed, where every place is taken.
 pub fn put<T: Ordered + Copy>(table: &mut [T], len: usize, x: T) -> Result<usize, Full>
-    ensures { MatchResult result (Put before x len table.old table.new) (λ _. Kept len table.old table.new) }
+    ensures { MatchResult result (Put T.before x len table.old table.new) (λ _. Kept len table.old table.new) }
 {
     if len >= table.len() {
         return Err(Full);
@@ -42,7 +42,7 @@ pub fn show<T: Copy>(table: &[T], len: usize, at: usize) -> Option<T>
 
 // Takes the first record, the others moving up, and answers it with the length after; none where the table holds no record.
 pub fn take_first<T: Ordered + Copy>(table: &mut [T], len: usize) -> Option<(T, usize)>
-    ensures { MatchOption result (Nothing len table.old table.new) (λ a. Taken before a.0 len table.old table.new a.1) }
+    ensures { MatchOption result (Nothing len table.old table.new) (λ a. Taken T.before a.0 len table.old table.new a.1) }
 {
     let count = len.min(table.len());
     if count == 0 {

@@ -33,19 +33,19 @@ loop-flow-preserved c =
     let fs = c.args.flows.now in
     let i = c.loop-flow.flow-index in
     let a = c.loop-flow.cycle in
-    let is : c.in-ok-cycle.cycle ≡ lcm a (pattern_time (get_or fs i no_flow)) = some_within _ (lcm a c.pattern_time.result) c.in-ok-cycle.cycle c.in-ok-cycle.ensures.value ∙ ap (λ (x : ℕ). lcm a x) c.pattern_time.ensures in
+    let is : c.in_ok-cycle.cycle ≡ lcm a (pattern_time (get_or fs i no_flow)) = some_within _ (lcm a c.pattern_time.result) c.in_ok-cycle.cycle c.in_ok-cycle.ensures.value ∙ ap (λ (x : ℕ). lcm a x) c.pattern_time.ensures in
     ap (λ (x : ℕ). lcm x (left fs (i + 1))) is ∙ step fs i a c.loop-flow-test.true ∙ c.loop-flow.invariant
 
-pub returns-in-err-cycle : goal.returns-in-err-cycle
-returns-in-err-cycle c =
+pub returns-in_err-cycle : goal.returns-in_err-cycle
+returns-in_err-cycle c =
     let fs = c.args.flows.now in
     let i = c.loop-flow.flow-index in
     let a = c.loop-flow.cycle in
     let m = lcm a (pattern_time (get_or fs i no_flow)) in
     let is : lcm a c.pattern_time.result ≡ m = ap (λ (x : ℕ). lcm a x) c.pattern_time.ensures in
-    let past : c.args.limit < m = subst (λ (x : ℕ). c.args.limit < x) is (none_within c.args.limit (lcm a c.pattern_time.result) c.in-err-cycle.ensures.value) in
+    let past : c.args.limit < m = subst (λ (x : ℕ). c.args.limit < x) is (none_within c.args.limit (lcm a c.pattern_time.result) c.in_err-cycle.ensures.value) in
     let divides : m ∣ cycle_of fs = subst (λ (x : ℕ). m ∣ x) (step fs i a c.loop-flow-test.true ∙ c.loop-flow.invariant) (lcm_multiple m (left fs (i + 1))).0 in
-    record { value = c.from-residual.ensures ∙ multiple_past c.args.limit m (cycle_of fs) past divides; one-rule = cycle-is fs; whole = cycle-whole fs; some = cycle_some fs }
+    record { value = c.from_residual.ensures ∙ multiple_past c.args.limit m (cycle_of fs) past divides; one_rule = cycle-is fs; whole = cycle-whole fs; some = cycle_some fs }
 
 pub returns-then-cycle-eq0 : goal.returns-then-cycle-eq0
 returns-then-cycle-eq0 c =
@@ -56,7 +56,7 @@ returns-then-cycle-eq0 c =
           (λ zero. from_one-zero c.args.limit (cycle_of fs) (sym is ∙ zero))
           (λ past. let over : c.args.limit < cycle_of fs = subst (λ (x : ℕ). c.args.limit < x) is past.1 in from_one-past c.args.limit (cycle_of fs) over)
           c.then-cycle-eq0.either;
-      one-rule = cycle-is fs;
+      one_rule = cycle-is fs;
       whole = cycle-whole fs;
       some = cycle_some fs;
     }
@@ -66,4 +66,4 @@ returns c =
     let fs = c.args.flows.now in
     let is : c.loop-flow.cycle ≡ cycle_of fs = sym (done fs c.loop-flow.flow-index c.loop-flow.cycle c.loop-flow-test.false) ∙ c.loop-flow.invariant in
     let some : 0 < c.loop-flow.cycle = omega arith in
-    record { value = from_one_some c.args.limit (cycle_of fs) c.loop-flow.cycle is some c.if-cycle-limit.false; one-rule = cycle-is fs; whole = cycle-whole fs; some = cycle_some fs }
+    record { value = from_one_some c.args.limit (cycle_of fs) c.loop-flow.cycle is some c.if-cycle-limit.false; one_rule = cycle-is fs; whole = cycle-whole fs; some = cycle_some fs }

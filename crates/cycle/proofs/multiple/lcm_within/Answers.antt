@@ -14,30 +14,30 @@ returns-then-a-eq0 c =
     let low : 0 ≤ c.args.limit = omega arith in
     record { value = within_some c.args.limit (lcm a b) 0 zero low; multiple = lcm_multiple a b; least = lcm-least a b }
 
-pub nonzero-div-a : goal.nonzero-div-a
-nonzero-div-a c = let some : 0 < c.args.a = omega arith in pos_of_dvd_of_pos c.gcd.ensures.divides.0 some
+pub nonzero_div-a : goal.nonzero_div-a
+nonzero_div-a c = let some : 0 < c.args.a = omega arith in pos_of_dvd_of_pos c.gcd.ensures.divides.0 some
 
-pub returns-in-err-multiple : goal.returns-in-err-multiple
-returns-in-err-multiple c =
+pub returns-in_err-multiple : goal.returns-in_err-multiple
+returns-in_err-multiple c =
     let a = c.args.a in
     let b = c.args.b in
     let is : a / c.gcd.result * b ≡ lcm a b = lcm_by_gcd a b c.gcd.result c.gcd.ensures.value in
-    let wraps = c.in-err-multiple.ensures in
+    let wraps = c.in_err-multiple.ensures in
     let past : c.args.limit < lcm a b = omega arith in
-    record { value = c.from-residual.ensures ∙ within_none c.args.limit (lcm a b) past; multiple = lcm_multiple a b; least = lcm-least a b }
+    record { value = c.from_residual.ensures ∙ within_none c.args.limit (lcm a b) past; multiple = lcm_multiple a b; least = lcm-least a b }
 
 pub returns-then-multiple-limit : goal.returns-then-multiple-limit
 returns-then-multiple-limit c =
     let a = c.args.a in
     let b = c.args.b in
-    let is : c.in-ok-multiple.multiple ≡ lcm a b = c.in-ok-multiple.ensures.1 ∙ lcm_by_gcd a b c.gcd.result c.gcd.ensures.value in
-    let low : c.in-ok-multiple.multiple ≤ c.args.limit = omega arith in
-    record { value = within_some c.args.limit (lcm a b) c.in-ok-multiple.multiple is low; multiple = lcm_multiple a b; least = lcm-least a b }
+    let is : c.in_ok-multiple.multiple ≡ lcm a b = c.in_ok-multiple.ensures.1 ∙ lcm_by_gcd a b c.gcd.result c.gcd.ensures.value in
+    let low : c.in_ok-multiple.multiple ≤ c.args.limit = omega arith in
+    record { value = within_some c.args.limit (lcm a b) c.in_ok-multiple.multiple is low; multiple = lcm_multiple a b; least = lcm-least a b }
 
 pub returns-else-multiple-limit : goal.returns-else-multiple-limit
 returns-else-multiple-limit c =
     let a = c.args.a in
     let b = c.args.b in
-    let is : c.in-ok-multiple.multiple ≡ lcm a b = c.in-ok-multiple.ensures.1 ∙ lcm_by_gcd a b c.gcd.result c.gcd.ensures.value in
+    let is : c.in_ok-multiple.multiple ≡ lcm a b = c.in_ok-multiple.ensures.1 ∙ lcm_by_gcd a b c.gcd.result c.gcd.ensures.value in
     let past : c.args.limit < lcm a b = omega arith in
     record { value = within_none c.args.limit (lcm a b) past; multiple = lcm_multiple a b; least = lcm-least a b }

@@ -43,7 +43,7 @@ loop-entry-preserved c =
           let here = step ∙ for_open_here x (drop (i + 1) xs) q ahead (omega arith) on in
           let a = w.ahead-is in
           let b = w.time-is in
-          let s = w.saturating-add-time.ensures in
+          let s = w.saturating_add-time.ensures in
           let same : open_for (drop (i + 1) xs) q c.if-ahead-interval.ahead ≡ open_for (drop (i + 1) xs) q 0 = ap (open_for (drop (i + 1) xs) q) a in
           (omega arith, omega arith)
     ]

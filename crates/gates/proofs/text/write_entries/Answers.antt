@@ -10,8 +10,8 @@ use Rattle.gates.proofs.text.write_entries.Goals as goal
 pub loop-entry-init : goal.loop-entry-init
 loop-entry-init c = written_none 0 c.args.memory.now
 
-pub write-entry-at-requires : goal.write-entry-at-requires
-write-entry-at-requires c =
+pub write_entry-at-requires : goal.write_entry-at-requires
+write_entry-at-requires c =
     let xs = c.args.list.now in
     let i = c.loop-entry.entry-index in
     let more = ap length (list_text_more xs i c.loop-entry-test.true) ∙ length-append (list_text (take i xs)) (entry_text (get_or xs i no_entry)) in
@@ -23,7 +23,7 @@ loop-entry-preserved c =
     let xs = c.args.list.now in
     let i = c.loop-entry.entry-index in
     let more = list_text_more xs i c.loop-entry-test.true in
-    rw more (written_more _ _ _ _ _ _ _ _ c.loop-entry.invariant c.write-entry-at.ensures)
+    rw more (written_more _ _ _ _ _ _ _ _ c.loop-entry.invariant c.write_entry-at.ensures)
 
 pub returns : goal.returns
 returns c =

@@ -5,7 +5,7 @@ use Rattle.table.specs.Order.{placed_last}
 use Rattle.table.proofs.Moves.{gap_none, gap_more, gap_put, gap_read}
 use Rattle.table.proofs.Places.{placed-take-past, placed-take_stop, put_from}
 use Rattle.table.proofs.table.put.Goals as goal
-use Rattle.table.proofs.table.put.Goals.{then-loop-at-test+else-goes-before, else-loop-at-test}
+use Rattle.table.proofs.table.put.Goals.{then-loop-at-test+else-goes_before, else-loop-at-test}
 
 pub loop-at-init : goal.loop-at-init
 loop-at-init g c =
@@ -26,7 +26,7 @@ loop-at-preserved g c =
     let is : i ≡ (i - 1) + 1 = omega arith in
     let within : i ≤ len = c.loop-at.invariant.1 in
     let read : y ≡ get_or e (i - 1) y = c.index-table-at-in-loop-at.is ∙ ap (λ l. get_or l (i - 1) y) c.loop-at.invariant.0 ∙ gap_read e len room i (i - 1) y (omega arith) within in
-    let test : b x y ≡ true = ap (b x) (c.index-table-at-in-loop-at.is ∙ get_or_default c.loop-at.table (i - 1) y c.index-table-at.result (omega arith)) ∙ sym c.if-goes-before.ensures in (
+    let test : b x y ≡ true = ap (b x) (c.index-table-at-in-loop-at.is ∙ get_or_default c.loop-at.table (i - 1) y c.index-table-at.result (omega arith)) ∙ sym c.if-goes_before.ensures in (
       ap (λ l. set l i y) c.loop-at.invariant.0 ∙ gap_more e len room i (i - 1) y is read within,
       omega arith,
       c.loop-at.invariant.2 ∙ placed-take-past b x e len i (i - 1) y is within room read test,
@@ -44,10 +44,10 @@ returns g c =
     let within : i ≤ len = c.loop-at.invariant.1 in
     let ends : placed_last b x (take i e) ≡ take i e ++ (x ∷ []) =
     elim c.loop-at-test.branch [
-      | then-loop-at-test+else-goes-before w ↦
+      | then-loop-at-test+else-goes_before w ↦
           let y = w.index-table-at.result in
           let read : y ≡ get_or e (i - 1) y = w.index-table-at.is ∙ ap (λ l. get_or l (i - 1) y) c.loop-at.invariant.0 ∙ gap_read e len room i (i - 1) y (omega arith) within in
-          placed-take_stop b x e len i (i - 1) y (omega arith) within room read (ap (b x) w.index-table-at.is ∙ sym w.if-goes-before.ensures)
+          placed-take_stop b x e len i (i - 1) y (omega arith) within room read (ap (b x) w.index-table-at.is ∙ sym w.if-goes_before.ensures)
       | else-loop-at-test w ↦ let none : i ≡ 0 = omega arith in rw none
     ] in
     let left : set c.loop-at.table i x ≡ placed_last b x (take len e) ++ drop (len + 1) e =

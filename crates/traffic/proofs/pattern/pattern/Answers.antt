@@ -22,7 +22,7 @@ returns-then-miss-eq0 c = record { value = rw c.if-miss-eq0.true; length = searc
 
 pub returns-then-kept-eq0 : goal.returns-then-kept-eq0
 returns-then-kept-eq0 c = record {
-  value = none_kept c.args.miss c.args.among c.if-miss-eq0.false (sym c.saturating-sub-kept.ensures ∙ c.if-kept-eq0.true);
+  value = none_kept c.args.miss c.args.among c.if-miss-eq0.false (sym c.saturating_sub-kept.ensures ∙ c.if-kept-eq0.true);
   length = search rules;
   few = few_optional c.args.miss c.args.among;
 }
@@ -31,9 +31,9 @@ pub returns : goal.returns
 returns c =
     let m = c.args.miss in
     let k = c.args.among in
-    let kept : c.saturating-sub-kept.result ≡ k - m = c.saturating-sub-kept.ensures in
-    let w : c.max.result ≡ max 1 (m / (k - m)) = c.max.ensures ∙ max_comm (m / c.saturating-sub-kept.result) 1 ∙ ap (λ (n : ℕ). max 1 (m / n)) kept in
-    let h = div-le_self (c.saturating-sub-kept.result + (m - 1)) m in
+    let kept : c.saturating_sub-kept.result ≡ k - m = c.saturating_sub-kept.ensures in
+    let w : c.max.result ≡ max 1 (m / (k - m)) = c.max.ensures ∙ max_comm (m / c.saturating_sub-kept.result) 1 ∙ ap (λ (n : ℕ). max 1 (m / n)) kept in
+    let h = div-le_self (c.saturating_sub-kept.result + (m - 1)) m in
     record {
       value = rw (some_miss m c.if-miss-eq0.false, w, kept);
       length = (omega arith, omega arith);

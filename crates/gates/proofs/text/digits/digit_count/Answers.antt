@@ -31,5 +31,5 @@ returns-in-10000000-to-99999999 c = count-is 7 c.args.n (omega arith) (omega ari
 pub returns-in-100000000-to-999999999 : goal.returns-in-100000000-to-999999999
 returns-in-100000000-to-999999999 c = count-is 8 c.args.n (omega arith) (omega arith) (omega arith)
 
-pub returns-in-default : goal.returns-in-default
-returns-in-default c = count-is 9 c.args.n (omega arith) (omega arith) (omega arith)
+pub returns-in_default : goal.returns-in_default
+returns-in_default c = count-is 9 c.args.n (omega arith) (omega arith) (omega arith)

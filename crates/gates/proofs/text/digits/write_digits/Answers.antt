@@ -6,8 +6,8 @@ use Rattle.gates.proofs.text.digits.write_digits.Goals as goal
 pub loop-rest-init : goal.loop-rest-init
 loop-rest-init c = spelling_none c.args.n c.args.end c.args.memory.now
 
-pub overflow-sub-at : goal.overflow-sub-at
-overflow-sub-at c =
+pub overflow_sub-at : goal.overflow_sub-at
+overflow_sub-at c =
     let h = spelling_room _ _ _ _ _ _ (omega arith) c.requires.0 c.loop-rest.invariant in
     omega arith
 
@@ -19,8 +19,8 @@ bounds-memory-at c =
 pub loop-rest-preserved : goal.loop-rest-preserved
 loop-rest-preserved c = spelling_more _ _ _ _ _ _ (omega arith) c.requires.0 c.requires.1 (omega arith) c.loop-rest.invariant
 
-pub overflow-sub-memory : goal.overflow-sub-memory
-overflow-sub-memory c =
+pub overflow_sub-memory : goal.overflow_sub-memory
+overflow_sub-memory c =
     let h = spelling_room _ _ _ _ _ _ (omega arith) c.requires.0 c.loop-rest.invariant in
     omega arith
 

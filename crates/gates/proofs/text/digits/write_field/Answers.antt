@@ -6,9 +6,9 @@ use Rattle.gates.proofs.text.digits.write_field.Goals as goal
 
 pub returns : goal.returns
 returns c =
-    let end = c.args.at + c.digit-count.result in
+    let end = c.args.at + c.digit_count.result in
     let at : end - length (decimal c.args.n) ≡ c.args.at = omega arith in
-    let digits : WrittenAt (decimal c.args.n) c.args.at end c.args.memory.now c.write-digits.new.memory = rw at at c.write-digits.ensures in
-    let room : end < length c.write-digits.new.memory = omega arith in
-    written_more (decimal c.args.n) (c.args.mark ∷ []) c.args.at end (end + 1) c.args.memory.now c.write-digits.new.memory _ digits
-    (written_byte c.args.mark end c.write-digits.new.memory room)
+    let digits : WrittenAt (decimal c.args.n) c.args.at end c.args.memory.now c.write_digits.new.memory = rw at at c.write_digits.ensures in
+    let room : end < length c.write_digits.new.memory = omega arith in
+    written_more (decimal c.args.n) (c.args.mark ∷ []) c.args.at end (end + 1) c.args.memory.now c.write_digits.new.memory _ digits
+    (written_byte c.args.mark end c.write_digits.new.memory room)
