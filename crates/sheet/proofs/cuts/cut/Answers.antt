@@ -10,4 +10,4 @@ parts i xs =
     rw (a, b)
 
 pub returns : goal.returns
-returns c = ap Some (parts c.in-ok-i.i c.args.text.now) ∙ sym c.in-ok-i.ensures.1
+returns c = ap Some (parts c.in_ok-i.i c.args.text.now) ∙ sym c.in_ok-i.ensures.1

@@ -7,8 +7,8 @@ use Rattle.std.specs.Char.{is_ascii_digit}
 use Rattle.sheet.specs.Numbers.{digits_value}
 use Rattle.sheet.proofs.digits.decimal.Goals as goal
 
-pub returns-then-not-is-ascii-digit : goal.returns-then-not-is-ascii-digit
-returns-then-not-is-ascii-digit c =
+pub returns-then-not-is_ascii_digit : goal.returns-then-not-is_ascii_digit
+returns-then-not-is_ascii_digit c =
     let xs = c.args.bytes.now in
     let i = c.loop-b.b-index in
     let step : all_ascii_digits (drop i xs) ≡ (is_ascii_digit (get_or xs i 0) && all_ascii_digits (drop (i + 1) xs)) = at_drop_more all_ascii_digits xs i 0 c.loop-b-test.true in

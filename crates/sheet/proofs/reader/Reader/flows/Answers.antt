@@ -14,36 +14,36 @@ loop-self-init c =
     let zero-len : vec_len c.args.flows.now ≡ 0 = len ∙ ap length none in
     (rw (zero-len, none), omega arith, omega arith, rw none)
 
-pub returns-in-err-heading : goal.returns-in-err-heading
-returns-in-err-heading c =
+pub returns-in_err-heading : goal.returns-in_err-heading
+returns-in_err-heading c =
     let done = c.loop-self.flows in
     let len : c.len.result ≡ length (vec_items done) = c.len.ensures ∙ done.ok.0 in
-    let fault = no_heading c.args.rate (vec_items done) c.len.result (cursor c.loop-self.self) len (64 - vec_len done) c.in-err-heading.field-0.0 c.in-err-heading.ensures in
+    let fault = no_heading c.args.rate (vec_items done) c.len.result (cursor c.loop-self.self) len (64 - vec_len done) c.in_err-heading.field-0.0 c.in_err-heading.ensures in
     let all = ap in_sheet (sym c.loop-self.invariant.0 ∙ fault) in
-    let p = err_from_is_err_and c.from-residual.result c.from-residual.ensures.1 in
+    let p = err_from_is_err_and c.from_residual.result c.from_residual.ensures.1 in
     rw (p.1, p.2) (inr all)
 
-pub returns-in-err-flow : goal.returns-in-err-flow
-returns-in-err-flow c =
+pub returns-in_err-flow : goal.returns-in_err-flow
+returns-in_err-flow c =
     let done = c.loop-self.flows in
-    let head = c.in-ok-heading.ensures in
+    let head = c.in_ok-heading.ensures in
     let len : c.len.result ≡ length (vec_items done) = c.len.ensures ∙ done.ok.0 in
     let here = cursor c.loop-self.self in
     let after = cursor c.heading.new.self in
     let more : heading_line c.len.result here ≡ Ok (true, after) = head.0 ∙ ap (λ (b : Bool). Ok (b, after)) c.if-branch.true in
-    let fault = no_flow_lines c.args.rate (vec_items done) c.len.result here len after c.in-err-flow.field-0.0 (head.2 c.if-branch.true) more c.in-err-flow.ensures in
+    let fault = no_flow_lines c.args.rate (vec_items done) c.len.result here len after c.in_err-flow.field-0.0 (head.2 c.if-branch.true) more c.in_err-flow.ensures in
     let same : flows_from (64 - vec_len done) c.args.rate (vec_items done) here ≡ flows_from (64 - c.len.result) c.args.rate (vec_items done) here = ap (λ (n : ℕ). flows_from (64 - n) c.args.rate (vec_items done) here) (sym c.len.ensures) in
     let all = ap in_sheet (sym c.loop-self.invariant.0 ∙ same ∙ fault) in
-    let p = err_from_is_err_and c.from-residual-in-err-flow.result c.from-residual-in-err-flow.ensures.1 in
+    let p = err_from_is_err_and c.from_residual-in_err-flow.result c.from_residual-in_err-flow.ensures.1 in
     rw (p.1, p.2) (inr all)
 
 pub loop-self-preserved : goal.loop-self-preserved
 loop-self-preserved c =
     let done = c.loop-self.flows in
     let rate = c.args.rate in
-    let head = c.in-ok-heading.ensures in
-    let lines = c.in-ok-flow.ensures in
-    let pushed = c.in-ok-push.ensures in
+    let head = c.in_ok-heading.ensures in
+    let lines = c.in_ok-flow.ensures in
+    let pushed = c.in_ok-push.ensures in
     let n = c.len.result in
     let len : n ≡ length (vec_items done) = c.len.ensures ∙ done.ok.0 in
     let here = cursor c.loop-self.self in
@@ -51,18 +51,18 @@ loop-self-preserved c =
     let next = cursor c.flow.new.self in
     let more : heading_line n here ≡ Ok (true, after) = head.0 ∙ ap (λ (b : Bool). Ok (b, after)) c.if-branch.true in
     let few = head.2 c.if-branch.true in
-    let step = one_flow rate (vec_items done) n here len after next c.in-ok-flow.flow few more lines.0 in
+    let step = one_flow rate (vec_items done) n here len after next c.in_ok-flow.flow few more lines.0 in
     let same : flows_from (64 - vec_len done) rate (vec_items done) here ≡ flows_from (64 - n) rate (vec_items done) here = ap (λ (m : ℕ). flows_from (64 - m) rate (vec_items done) here) (sym c.len.ensures) in
     let count : n + 1 ≡ vec_len c.push.new.self = ap (λ (m : ℕ). m + 1) c.len.ensures ∙ sym pushed.len in
-    let whole : flows_from (64 - vec_len c.push.new.self) rate (vec_items c.push.new.self) next ≡ flows_from (64 - (n + 1)) rate (vec_items done ++ (c.in-ok-flow.flow ∷ [])) next =
+    let whole : flows_from (64 - vec_len c.push.new.self) rate (vec_items c.push.new.self) next ≡ flows_from (64 - (n + 1)) rate (vec_items done ++ (c.in_ok-flow.flow ∷ [])) next =
     ap (λ (m : ℕ). flows_from (64 - m) rate (vec_items c.push.new.self) next) (sym count) ∙ ap (λ (fs : List Flow). flows_from (64 - (n + 1)) rate fs next) pushed.items in
     let len_is = c.len.ensures in
-    (whole ∙ sym step ∙ sym same ∙ c.loop-self.invariant.0, omega (arith, pushed.len), omega (arith, pushed.len), rw pushed.items (all_kept_push rate (vec_items done) c.in-ok-flow.flow c.loop-self.invariant.3 lines.2))
+    (whole ∙ sym step ∙ sym same ∙ c.loop-self.invariant.0, omega (arith, pushed.len), omega (arith, pushed.len), rw pushed.items (all_kept_push rate (vec_items done) c.in_ok-flow.flow c.loop-self.invariant.3 lines.2))
 
 pub returns : goal.returns
 returns c =
     let done = c.loop-self.flows in
-    let head = c.in-ok-heading.ensures in
+    let head = c.in_ok-heading.ensures in
     let len : c.len.result ≡ length (vec_items done) = c.len.ensures ∙ done.ok.0 in
     let here = cursor c.loop-self.self in
     let after = cursor c.heading.new.self in

@@ -3,5 +3,5 @@ use Rattle.std.proofs.Common.{arith}
 use Rattle.sheet.proofs.Wholes.{no_cycle}
 use Rattle.sheet.proofs.sheet.Sheet.new.Goals as goal
 
-pub invariant-of-result : goal.invariant-of-result
-invariant-of-result c = (omega (arith, c.new.ensures.len), (rw c.new.ensures.items, (rw c.new.ensures.items no_cycle, (omega arith, tt))))
+pub invariant_of-result : goal.invariant_of-result
+invariant_of-result c = record { few = omega (arith, c.new.ensures.len); kept = rw c.new.ensures.items; round = rw c.new.ensures.items no_cycle; short = omega arith }

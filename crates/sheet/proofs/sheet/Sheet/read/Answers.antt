@@ -11,8 +11,8 @@ use Rattle.sheet.proofs.sheet.Sheet.read.Goals as goal
 abbrev with_flows : List Flow → Traffic
 with_flows fs = record { rate = Mbit10; flows = fs }
 
-pub invariant-of-self-in-Err : goal.invariant-of-self-in-Err
-invariant-of-self-in-Err c = (omega (arith, c.forget-in-Err.ensures.len), (rw c.forget-in-Err.ensures.items, (rw c.forget-in-Err.ensures.items no_cycle, (omega arith, tt))))
+pub invariant_of-self-in-Err : goal.invariant_of-self-in-Err
+invariant_of-self-in-Err c = record { few = omega (arith, c.forget-in-Err.ensures.len); kept = rw c.forget-in-Err.ensures.items; round = rw c.forget-in-Err.ensures.items no_cycle; short = omega arith }
 
 pub returns-in-Ok : goal.returns-in-Ok
 returns-in-Ok c =
