@@ -10,7 +10,7 @@ use Rattle.arrivals.specs.Upcoming.{NextPacket}
 use Rattle.arrivals.specs.Cursors.{cursor_before, cursor_list, CursorPut, CursorKept}
 use Rattle.arrivals.proofs.Beginning.{Begun, begun_none, begun_all, begun_skip, begun_put}
 use Rattle.arrivals.proofs.cursors.first_cursors.Goals as goal
-use Rattle.arrivals.proofs.cursors.first_cursors.Goals.{in-Some, in-default}
+use Rattle.arrivals.proofs.cursors.first_cursors.Goals.{in-Some, in_default}
 
 -- there is a place for each flow
 put_fits : {X Y : Type 0} (r : Result X Y) (p : Packet) (entry exit : Cursors) → entry.count < 64 → MatchResult r (λ _. CursorPut p entry exit) (λ _. CursorKept entry exit) → CursorPut p entry exit
@@ -35,12 +35,12 @@ loop-i-preserved c =
     let end = c.args.end in
     let i = c.loop-i.i in
     let Goal : Cursors → Type 0 = λ cs. Begun s fs end (i + 1) (cursor_list cs) × (cs.count ≤ i + 1) in
-    elim c.match-next-packet.branch [
+    elim c.match-next_packet.branch [
       | in-Some w ↦
           let put = put_fits w.put.result w.in-Some.packet c.loop-i.cursors w.put.new.self (omega (arith, c.loop-i.invariant.1, c.loop-i-test.true, c.requires)) w.put.ensures in
           subst Goal (sym w.cursors-is) (put_begun s fs end i w.in-Some.packet c.loop-i.cursors w.put.new.self c.loop-i-test.true c.loop-i.invariant.0 c.loop-i.invariant.1 w.in-Some.ensures put)
-      | in-default w ↦
-          subst Goal (sym w.cursors-is) (begun_skip s fs end i c.loop-i-test.true (cursor_list c.loop-i.cursors) c.loop-i.invariant.0 w.in-default.ensures, omega (arith, c.loop-i.invariant.1))
+      | in_default w ↦
+          subst Goal (sym w.cursors-is) (begun_skip s fs end i c.loop-i-test.true (cursor_list c.loop-i.cursors) c.loop-i.invariant.0 w.in_default.ensures, omega (arith, c.loop-i.invariant.1))
     ]
 
 pub returns : goal.returns

@@ -43,7 +43,7 @@ loop-w-preserved c =
     let k = c.write-n.result in
     let l₂ = c.close-n.new.list in
     let l₃ = c.write-n.new.list in
-    let put : Wrote (entry w ∷ []) m k l₂ l₃ = subst (λ (e : Entry). Wrote (e ∷ []) m k l₂ l₃) c.entry-of.ensures c.write-n.ensures in
+    let put : Wrote (entry w ∷ []) m k l₂ l₃ = subst (λ (e : Entry). Wrote (e ∷ []) m k l₂ l₃) c.entry_of.ensures c.write-n.ensures in
     let more = drawn_more c.loop-w.at c.args.cycle i c.loop-w.n m k ws (drawn 0 ws c.args.cycle) c.args.list.now c.loop-w.list l₂ l₃ c.loop-w-test.true c.loop-w.invariant.0 c.loop-w.invariant.1 c.close-n.ensures put in (
       ap (λ (t : ℕ). take k l₃ ++ drawn t (drop (i + 1) ws) c.args.cycle) c.end-at.ensures ∙ more.0,
       more.1,
@@ -55,8 +55,8 @@ loop-w-preserved c =
           omega (arith, c.requires.room, c.loop-w.auto.list, c.close-n.auto.list, c.close-n.ensures.count, c.write-n.auto.list, c.write-n.ensures.count),
     )
 
-pub entry-of-requires : goal.entry-of-requires
-entry-of-requires c = All-get_or Fits c.args.windows.now c.loop-w.w-index no_window c.loop-w-test.true c.requires.fit.0
+pub entry_of-requires : goal.entry_of-requires
+entry_of-requires c = All-get_or Fits c.args.windows.now c.loop-w.w-index no_window c.loop-w-test.true c.requires.fit.0
 
 pub end-at-requires : goal.end-at-requires
 end-at-requires c =

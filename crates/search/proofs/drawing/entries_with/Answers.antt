@@ -4,8 +4,8 @@ use Rattle.search.specs.Windows.{end, last_end, first_start}
 use Rattle.search.proofs.Entries.{gap, length_inserted, gap_within}
 use Rattle.search.proofs.drawing.entries_with.Goals as goal
 
-pub overflow-sub-result : goal.overflow-sub-result
-overflow-sub-result c =
+pub overflow_sub-result : goal.overflow_sub-result
+overflow_sub-result c =
     let ws = c.args.windows.now in
     let place = c.args.place in
     let cycle = c.args.cycle in

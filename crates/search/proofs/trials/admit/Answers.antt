@@ -28,8 +28,8 @@ loop-job-init c =
 pub take-requires : goal.take-requires
 take-requires c = record { queue = omega arith; comes = c.loop-job.invariant.1.0 0 (omega arith) }
 
-pub try-packet-trials-requires : goal.try-packet-trials-requires
-try-packet-trials-requires c =
+pub try_packet-trials-requires : goal.try_packet-trials-requires
+try_packet-trials-requires c =
     let s = c.args.sheet.now in
     let x = c.in-Some.job in
     let a = c.loop-job.invariant.0 in
@@ -63,12 +63,12 @@ loop-job-preserved c =
     let step = stepped t s.cycle 0 x before after lined c.in-Some.ensures.took in
     let ws = standing c.loop-job.windows c.loop-job.trials.tally in
     let is : left t s.cycle 0 before ≡ x ∷ left t s.cycle 0 after = left_step t s.cycle 0 s.kept x before after lined c.in-Some.ensures.took in
-    let now-tried : standing c.try-packet-trials.new.windows c.try-packet-trials.result.tally ≡ tried s.cycle x ws = c.try-packet-trials.ensures.result ∙ ap (λ (k : ℕ). tried k x ws) c.cycle-cycle.ensures in (
+    let now-tried : standing c.try_packet-trials.new.windows c.try_packet-trials.result.tally ≡ tried s.cycle x ws = c.try_packet-trials.ensures.result ∙ ap (λ (k : ℕ). tried k x ws) c.cycle-cycle.ensures in (
       x.arrival,
       (
         come_again t s.cycle 0 c.loop-job.queues c.take.new.self c.take.result c.loop-job.invariant.1.0 (omega arith) c.take.ensures.took c.take.ensures.few c.take.ensures.others,
         (
-          c.try-packet-trials.ensures.tried,
+          c.try_packet-trials.ensures.tried,
           (
             step.later,
             ap (admitted s.cycle (left t s.cycle 0 after)) now-tried ∙ sym (ap (λ (ps : List Job). admitted s.cycle ps ws) is) ∙ c.loop-job.invariant.1.1.1.1,
@@ -82,7 +82,7 @@ returns c =
     let s = c.args.sheet.now in
     let t = traffic_of s in
     let ws = standing c.loop-job.windows c.loop-job.trials.tally in
-    let none : lefts t s.cycle c.loop-job.queues 0 ≡ [] = ap (left t s.cycle 0) c.in-default.ensures.took.0 ∙ left_none t s.cycle 0 s.kept in
+    let none : lefts t s.cycle c.loop-job.queues 0 ≡ [] = ap (left t s.cycle 0) c.in_default.ensures.took.0 ∙ left_none t s.cycle 0 s.kept in
     record {
       tallied = subst (λ (k : ℕ). Tallied k c.loop-job.windows c.loop-job.trials.tally) c.cycle-cycle.ensures c.loop-job.invariant.1.1.0.tally;
       value = sym (ap (λ (ps : List Job). admitted s.cycle ps ws) none) ∙ c.loop-job.invariant.1.1.1.1;

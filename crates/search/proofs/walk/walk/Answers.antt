@@ -51,9 +51,9 @@ take-requires g c =
 
 pub loop-w-smaller : goal.loop-w-smaller
 loop-w-smaller g c =
-    let h = c.in-ok-tally.ensures in
+    let h = c.in_ok-tally.ensures in
     let ms = c.place.new.windows in
-    let tally = c.in-ok-tally.tally in
+    let tally = c.in_ok-tally.tally in
     let long : length (standing ms tally) ≡ tally.windows = length-take-le tally.windows ms h.1.within in
     let each = fewer_windows 0 c.cycle-cycle.result (standing ms tally) in
     let few = h.1.few in
@@ -66,19 +66,19 @@ loop-w-preserved g c =
     let s = c.args.sheet.now in
     let b = g.O.ServingOrder.before c.args.order.now in
     let w = c.in-Some.w in
-    let h = c.in-ok-tally.ensures in
+    let h = c.in_ok-tally.ensures in
     let t = traffic_of s in
     let facts = next_facts t s.cycle c.loop-w.queues b c.loop-w.t w c.loop-w.invariant.1 (sym c.in-Some.ensures) in
     let most = facts.mandatory.most in
     let some = facts.mandatory.some in
     let ws = standing c.loop-w.windows c.loop-w.tally in
-    let zs = standing c.place.new.windows c.in-ok-tally.tally in
+    let zs = standing c.place.new.windows c.in_ok-tally.tally in
     let f = lefts t s.cycle c.loop-w.queues in
     let turns : next b c.loop-w.t (firsts f 7) ≡ Some w = sym (ap (next b c.loop-w.t) (lefts-firsts t s.cycle s.kept c.loop-w.queues c.loop-w.invariant.1)) ∙ sym c.in-Some.ensures in
     let has = next-left t s.cycle s.kept b c.loop-w.t c.loop-w.queues w turns in
     let placed : placed_next s.cycle ws w ≡ Ok zs = ap (λ (k : ℕ). placed_next k ws w) (sym c.cycle-cycle.ensures) ∙ h.0 in
     let step = lefts_step t s.cycle s.kept w.packet.queue c.loop-w.queues c.take.new.self c.take.result c.loop-w.invariant.1 (omega arith) c.take.ensures.took c.take.ensures.others in
-    let is = placed-is c.cycle-cycle.result ws (standing c.place.new.windows c.in-ok-tally.tally) w h.0 in (
+    let is = placed-is c.cycle-cycle.result ws (standing c.place.new.windows c.in_ok-tally.tally) w h.0 in (
       h.1,
       come_again (traffic_of s) s.cycle w.packet.queue c.loop-w.queues c.take.new.self c.take.result c.loop-w.invariant.1 (omega arith) c.take.ensures.took c.take.ensures.few c.take.ensures.others,
       c.take.ensures.others 0 (λ e. omega arith) ∙ c.loop-w.invariant.2,
@@ -94,10 +94,10 @@ pub loop-w-init : goal.loop-w-init
 loop-w-init g c =
     let s = c.args.sheet.now in
     let ms = c.args.windows.now in
-    let tally = c.empty-tally-tally.result in
-    let none : standing ms tally ≡ [] = ap (λ (k : ℕ). take k ms) c.empty-tally-tally.ensures.0 in
-    let zero_of = c.empty-tally-tally.ensures.0 in
-    let one_of : tally.entries ≡ gap 0 c.cycle-cycle.result = c.empty-tally-tally.ensures.1 in
+    let tally = c.empty_tally-tally.result in
+    let none : standing ms tally ≡ [] = ap (λ (k : ℕ). take k ms) c.empty_tally-tally.ensures.0 in
+    let zero_of = c.empty_tally-tally.ensures.0 in
+    let one_of : tally.entries ≡ gap 0 c.cycle-cycle.result = c.empty_tally-tally.ensures.1 in
     let long = length-closed 0 c.cycle-cycle.result [] in
     let drawn-none : length (drawn 0 (standing ms tally) c.cycle-cycle.result) ≡ length (closed 0 c.cycle-cycle.result []) = ap (λ (zs : List Window). length (drawn 0 zs c.cycle-cycle.result)) none in
     let small : gap 0 c.cycle-cycle.result ≤ 1 = cond_both (ltb 0 c.cycle-cycle.result) 1 0 (λ (n : ℕ). n ≤ 1) (λ _. omega arith) (λ _. omega arith) in (
@@ -115,8 +115,8 @@ loop-w-init g c =
       ap (walked_over (g.O.ServingOrder.before c.args.order.now) s.cycle 0 (lefts (traffic_of s) s.cycle c.args.queues.now)) none,
     )
 
-pub returns-in-err-tally : goal.returns-in-err-tally
-returns-in-err-tally g c =
+pub returns-in_err-tally : goal.returns-in_err-tally
+returns-in_err-tally g c =
     let s = c.args.sheet.now in
     let t = traffic_of s in
     let b = g.O.ServingOrder.before c.args.order.now in
@@ -126,9 +126,9 @@ returns-in-err-tally g c =
     let f = lefts t s.cycle c.loop-w.queues in
     let turns : next b c.loop-w.t (firsts f 7) ≡ Some w = sym (ap (next b c.loop-w.t) (lefts-firsts t s.cycle s.kept c.loop-w.queues c.loop-w.invariant.1)) ∙ sym c.in-Some.ensures in
     let has = next-left t s.cycle s.kept b c.loop-w.t c.loop-w.queues w turns in
-    let p = err_from_is_err_and c.from-residual.result c.from-residual.ensures.1 in
+    let p = err_from_is_err_and c.from_residual.result c.from_residual.ensures.1 in
     let e : SearchFault = p.0 in
-    let refused : placed_next s.cycle ws w ≡ Err e = ap (λ (k : ℕ). placed_next k ws w) (sym c.cycle-cycle.ensures) ∙ c.in-err-tally.ensures ∙ ap Err (sym p.2) in
+    let refused : placed_next s.cycle ws w ≡ Err e = ap (λ (k : ℕ). placed_next k ws w) (sym c.cycle-cycle.ensures) ∙ c.in_err-tally.ensures ∙ ap Err (sym p.2) in
     record {
       value = rw p.1 (sym c.loop-w.invariant.5 ∙ walked_err b s.cycle c.loop-w.t f ws w e turns facts.mandatory.some facts.mandatory.most has refused);
       come = c.loop-w.invariant.1;
@@ -142,7 +142,7 @@ returns g c =
     let b = g.O.ServingOrder.before c.args.order.now in
     let ws = standing c.loop-w.windows c.loop-w.tally in
     let f = lefts t s.cycle c.loop-w.queues in
-    let ends : next b c.loop-w.t (firsts f 7) ≡ None = sym (ap (next b c.loop-w.t) (lefts-firsts t s.cycle s.kept c.loop-w.queues c.loop-w.invariant.1)) ∙ sym c.in-default.ensures in
+    let ends : next b c.loop-w.t (firsts f 7) ≡ None = sym (ap (next b c.loop-w.t) (lefts-firsts t s.cycle s.kept c.loop-w.queues c.loop-w.invariant.1)) ∙ sym c.in_default.ensures in
     record {
       value = (
         subst (λ (k : ℕ). Tallied k c.loop-w.windows c.loop-w.tally) c.cycle-cycle.ensures c.loop-w.invariant.0,

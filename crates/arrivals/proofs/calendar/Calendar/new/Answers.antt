@@ -30,29 +30,29 @@ no_fault (f ∷ fs) cycles some low high = cond-true (leb 1 cycles && leb cycles
 end_bound : (cycles cycle : ℕ) → cycles ≤ 4000000000 → cycle ≤ 1000000000 → cycles * cycle ≤ 4000000000000000000
 end_bound cycles cycle few short = mul-le-mul few short
 
-pub invariant-of-result : goal.invariant-of-result
-invariant-of-result c =
+pub invariant_of-result : goal.invariant_of-result
+invariant_of-result c =
     let fs = c.args.sheet.now.flows.items in
     let end = c.args.cycles * c.cycle.result in
-    let cs = cursor_list c.first-cursors-cursors.result in
+    let cs = cursor_list c.first_cursors-cursors.result in
     let short : c.cycle.result ≤ 1000000000 = omega (arith, c.cycle.ensures, c.args.sheet.now.short) in
-    let first : FirstCursors c.args.sort fs end cs = subst (λ (gs : List Flow). FirstCursors c.args.sort gs end cs) c.flows-flows.ensures c.first-cursors-cursors.ensures in
-    (end_bound c.args.cycles c.cycle.result c.if-cycles-gt-MOST-CYCLES.false short, (first.ordered, (first.stands, tt)))
+    let first : FirstCursors c.args.sort fs end cs = subst (λ (gs : List Flow). FirstCursors c.args.sort gs end cs) c.flows-flows.ensures c.first_cursors-cursors.ensures in
+    (end_bound c.args.cycles c.cycle.result c.if-cycles-gt-MOST_CYCLES.false short, (first.ordered, (first.stands, tt)))
 
 pub returns : goal.returns
 returns c =
     let sheet = c.args.sheet.now in
     let fs = sheet.flows.items in
     let end = c.args.cycles * c.cycle.result in
-    let cs = cursor_list c.first-cursors-cursors.result in
+    let cs = cursor_list c.first_cursors-cursors.result in
     let periodic : Periodic fs = kept_periodic sheet.rate fs sheet.kept in
-    let first : FirstCursors c.args.sort fs end cs = subst (λ (gs : List Flow). FirstCursors c.args.sort gs end cs) c.flows-flows.ensures c.first-cursors-cursors.ensures in
-    let some : length c.flows-flows.result.now ≡ 0 → ⊥ = eqb-false (length c.flows-flows.result.now) 0 (sym c.is-empty.ensures ∙ c.if-is-empty.false) in
+    let first : FirstCursors c.args.sort fs end cs = subst (λ (gs : List Flow). FirstCursors c.args.sort gs end cs) c.flows-flows.ensures c.first_cursors-cursors.ensures in
+    let some : length c.flows-flows.result.now ≡ 0 → ⊥ = eqb-false (length c.flows-flows.result.now) 0 (sym c.is_empty.ensures ∙ c.if-is_empty.false) in
     let long : length c.flows-flows.result.now ≡ length fs = ap length c.flows-flows.ensures in
     let same : end ≡ c.args.cycles * sheet.cycle = ap (λ (k : ℕ). c.args.cycles * k) c.cycle.ensures in
     let list : from_cursors c.args.sort fs end cs ≡ calendar c.args.sort fs (c.args.cycles * sheet.cycle) = whole c.args.sort fs end cs first ∙ ap (calendar c.args.sort fs) same in
     record {
-      taken = no_fault fs c.args.cycles (omega arith) (omega (arith, c.if-cycles-eq0.false)) c.if-cycles-gt-MOST-CYCLES.false;
+      taken = no_fault fs c.args.cycles (omega arith) (omega (arith, c.if-cycles-eq0.false)) c.if-cycles-gt-MOST_CYCLES.false;
       list = list;
       exactly = subst (Exactly c.args.sort fs (c.args.cycles * sheet.cycle)) (sym list) (calendar_exactly c.args.sort fs periodic (c.args.cycles * sheet.cycle));
       apart = λ other. subst (λ (ps : List Packet). Apart ps (calendar (other_sort c.args.sort) fs other)) (sym list) (calendar_apart c.args.sort fs periodic (c.args.cycles * sheet.cycle) other);

@@ -12,10 +12,10 @@ same-merged {us} {vs} {xs} {ys} p q = ap (λ (zs : List Packet). merged zs vs) p
 
 pub returns : goal.returns
 returns c =
-    let m = c.in-ok-mandatory.mandatory in
-    let o = c.in-ok-optional.optional in
-    let mandatory = c.in-ok-mandatory.ensures in
-    let optional = c.in-ok-optional.ensures in
+    let m = c.in_ok-mandatory.mandatory in
+    let o = c.in_ok-optional.optional in
+    let mandatory = c.in_ok-mandatory.ensures in
+    let optional = c.in_ok-optional.ensures in
     let first : to_come c.new-3.result.first ≡ to_come m = ap to_come c.new-3.ensures.parts.0 in
     let second : to_come c.new-3.result.second ≡ to_come o = ap to_come c.new-3.ensures.parts.1 in
     let apart : Apart (to_come m) (to_come o) = subst (Apart (to_come m)) (sym optional.list) (mandatory.apart (c.args.cycles * c.args.sheet.now.cycle)) in

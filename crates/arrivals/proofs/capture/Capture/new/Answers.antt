@@ -13,15 +13,15 @@ loop-i-init c = (one_record c.args.packets.now, omega arith, omega arith)
 
 pub loop-i-preserved : goal.loop-i-preserved
 loop-i-preserved c =
-    (one_more c.args.packets.now c.loop-i.i _ (omega arith) c.loop-i-test.true c.if-i-ge-MOST-PACKETS.false c.loop-i.invariant.0 (sym c.if-not-rises.ensures), omega arith, omega arith)
+    (one_more c.args.packets.now c.loop-i.i _ (omega arith) c.loop-i-test.true c.if-i-ge-MOST_PACKETS.false c.loop-i.invariant.0 (sym c.if-not-rises.ensures), omega arith, omega arith)
 
-pub returns-then-i-ge-MOST-PACKETS : goal.returns-then-i-ge-MOST-PACKETS
-returns-then-i-ge-MOST-PACKETS c =
+pub returns-then-i-ge-MOST_PACKETS : goal.returns-then-i-ge-MOST_PACKETS
+returns-then-i-ge-MOST_PACKETS c =
     let ps = c.args.packets.now in
     let i = c.loop-i.i in
     let fault : capturable (take (i + 1) ps) ≡ false =
-    elim c.then-i-ge-MOST-PACKETS.branch [
-      | then-i-ge-MOST-PACKETS-via-then-i-ge-MOST-PACKETS w ↦ too_many ps i no_packet (omega arith) c.loop-i-test.true w.if-i-ge-MOST-PACKETS.true
+    elim c.then-i-ge-MOST_PACKETS.branch [
+      | then-i-ge-MOST-PACKETS-via-then-i-ge-MOST-PACKETS w ↦ too_many ps i no_packet (omega arith) c.loop-i-test.true w.if-i-ge-MOST_PACKETS.true
       | then-i-ge-MOST-PACKETS-via-else-i-ge-MOST-PACKETS+then-not-rises w ↦ no_rise ps i no_packet (omega arith) c.loop-i-test.true (sym w.if-not-rises.ensures)
     ] in
     let at : i ≡ i + 1 - 1 = omega arith in

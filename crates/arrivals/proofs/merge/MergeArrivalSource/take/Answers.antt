@@ -5,8 +5,8 @@ use Rattle.arrivals.specs.Merges.{second_first}
 use Rattle.arrivals.proofs.Merging.{first_taken}
 use Rattle.arrivals.proofs.merge.MergeArrivalSource.take.Goals as goal
 
-pub returns-else-is-second : goal.returns-else-is-second
-returns-else-is-second g c =
+pub returns-else-is_second : goal.returns-else-is_second
+returns-else-is_second g c =
     let xs = g.P.ArrivalSource.arrivals c.args.self.now.first in
     let ys = g.Q.ArrivalSource.arrivals c.args.self.now.second in
     let left : second_first (first xs) (first ys) ≡ false = cc in

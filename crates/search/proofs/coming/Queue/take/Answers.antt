@@ -7,21 +7,21 @@ use Rattle.search.specs.declared.coming.Next.{Next}
 use Rattle.search.proofs.Dues.{due_bounds}
 use Rattle.search.proofs.coming.Queue.take.Goals as goal
 
-pub overflow-add-packet : goal.overflow-add-packet
-overflow-add-packet c =
+pub overflow_add-packet : goal.overflow_add-packet
+overflow_add-packet c =
     let s = c.args.sheet.now in
-    let first = c.in-ok-first.first in
-    let due : Due (traffic_of s) s.cycle c.args.queue first.packet = (subst (AllByRecursion (λ (n : Next). Due (traffic_of s) s.cycle c.args.queue n.packet)) c.in-ok-first.ensures.held c.requires.lined.due).0 in
+    let first = c.in_ok-first.first in
+    let due : Due (traffic_of s) s.cycle c.args.queue first.packet = (subst (AllByRecursion (λ (n : Next). Due (traffic_of s) s.cycle c.args.queue n.packet)) c.in_ok-first.ensures.held c.requires.lined.due).0 in
     let b = due_bounds (traffic_of s) s.cycle c.args.queue first.packet s.kept due in
     omega (arith, b.number_most, s.short)
 
 pub join-requires : goal.join-requires
 join-requires c =
     let s = c.args.sheet.now in
-    let first = c.in-ok-first.first in
-    let due : Due (traffic_of s) s.cycle c.args.queue first.packet = (subst (AllByRecursion (λ (n : Next). Due (traffic_of s) s.cycle c.args.queue n.packet)) c.in-ok-first.ensures.held c.requires.lined.due).0 in
+    let first = c.in_ok-first.first in
+    let due : Due (traffic_of s) s.cycle c.args.queue first.packet = (subst (AllByRecursion (λ (n : Next). Due (traffic_of s) s.cycle c.args.queue n.packet)) c.in_ok-first.ensures.held c.requires.lined.due).0 in
     let b = due_bounds (traffic_of s) s.cycle c.args.queue first.packet s.kept due in
-    let count = c.in-ok-first.ensures.count in
+    let count = c.in_ok-first.ensures.count in
     record {
       flow = (due.named, due.listed);
       number = (omega arith, omega (arith, b.number_most, s.short));

@@ -32,35 +32,35 @@ moved m p fs next is same h =
     let Goes : Flow → Type 0 = λ f. MatchOption next (NoPacket m.sort f (p.number + 1) m.end) (NextPacket m.sort f p.flow (p.number + 1) m.end) in
     moves m.sort m.sheet.now.flows.items m.end (periodic m) (cursor_list m.cursors) p next m.stands m.ordered is (subst Goes flow h)
 
-pub returns-in-err-packet : goal.returns-in-err-packet
-returns-in-err-packet c =
+pub returns-in_err-packet : goal.returns-in_err-packet
+returns-in_err-packet c =
     let m = c.args.self.now in
-    let none = none_shown m.sort m.sheet.now.flows.items m.end (cursor_list m.cursors) (sym c.first.ensures ∙ c.in-err-packet.was) in
-    record { value = c.from-residual.ensures ∙ sym (ap first none); after = none ∙ sym (ap rest none) }
+    let none = none_shown m.sort m.sheet.now.flows.items m.end (cursor_list m.cursors) (sym c.first.ensures ∙ c.in_err-packet.was) in
+    record { value = c.from_residual.ensures ∙ sym (ap first none); after = none ∙ sym (ap rest none) }
 
-pub overflow-add-packet : goal.overflow-add-packet
-overflow-add-packet c = omega (arith, number_bound c.args.self.now c.in-ok-packet.packet (sym c.first.ensures ∙ c.in-ok-packet.was))
+pub overflow_add-packet : goal.overflow_add-packet
+overflow_add-packet c = omega (arith, number_bound c.args.self.now c.in_ok-packet.packet (sym c.first.ensures ∙ c.in_ok-packet.was))
 
-pub next-packet-next-requires : goal.next-packet-next-requires
-next-packet-next-requires c =
-    let bound = number_bound c.args.self.now c.in-ok-packet.packet (sym c.first.ensures ∙ c.in-ok-packet.was) in
+pub next_packet-next-requires : goal.next_packet-next-requires
+next_packet-next-requires c =
+    let bound = number_bound c.args.self.now c.in_ok-packet.packet (sym c.first.ensures ∙ c.in_ok-packet.was) in
     (omega arith, omega arith)
 
-pub invariant-of-self : goal.invariant-of-self
-invariant-of-self c =
+pub invariant_of-self : goal.invariant_of-self
+invariant_of-self c =
     let m = c.args.self.now in
-    let is = sym c.first.ensures ∙ c.in-ok-packet.was in
-    let to = moved m c.in-ok-packet.packet c.flows-flows.result.now c.next-packet-next.result is c.flows-flows.ensures c.next-packet-next.ensures in
-    let stands = subst (λ (cs : List Cursor). standing m.sort m.sheet.now.flows.items m.end cs ≡ true) (sym (c.replace-first.ensures.holds m.ordered)) to.stands in
-    (m.early, (c.replace-first.ensures.ordered m.ordered, (stands, tt)))
+    let is = sym c.first.ensures ∙ c.in_ok-packet.was in
+    let to = moved m c.in_ok-packet.packet c.flows-flows.result.now c.next_packet-next.result is c.flows-flows.ensures c.next_packet-next.ensures in
+    let stands = subst (λ (cs : List Cursor). standing m.sort m.sheet.now.flows.items m.end cs ≡ true) (sym (c.replace_first.ensures.holds m.ordered)) to.stands in
+    (m.early, (c.replace_first.ensures.ordered m.ordered, (stands, tt)))
 
 pub returns : goal.returns
 returns c =
     let m = c.args.self.now in
     let fs = m.sheet.now.flows.items in
-    let is = sym c.first.ensures ∙ c.in-ok-packet.was in
-    let to = moved m c.in-ok-packet.packet c.flows-flows.result.now c.next-packet-next.result is c.flows-flows.ensures c.next-packet-next.ensures in
+    let is = sym c.first.ensures ∙ c.in_ok-packet.was in
+    let to = moved m c.in_ok-packet.packet c.flows-flows.result.now c.next_packet-next.result is c.flows-flows.ensures c.next_packet-next.ensures in
     record {
       value = sym is ∙ next_shown m.sort fs m.end (periodic m) (cursor_list m.cursors) m.stands m.ordered;
-      after = ap (from_cursors m.sort fs m.end) (c.replace-first.ensures.holds m.ordered) ∙ sym to.left;
+      after = ap (from_cursors m.sort fs m.end) (c.replace_first.ensures.holds m.ordered) ∙ sym to.left;
     }
