@@ -32,7 +32,7 @@ fn earlier(least: Option<u64>, job: Option<Job>) -> Option<u64>
 
 // The packet that is served first of the best so far and another, if that has arrived by the instant `t`.
 fn sooner<O: ServingOrder>(order: &O, t: u64, best: Option<Job>, job: Option<Job>) -> Option<Job>
-    ensures { result ≡ served_with (before order.now) t job best }
+    ensures { result ≡ served_with (O.before order.now) t job best }
 {
     let Some(x) = job else {
         return best;
@@ -76,7 +76,7 @@ impl Queues {
 
     // Of the first mandatory packets of the queues that have arrived by the instant `t`, the one that is served first.
     fn served<O: ServingOrder>(&self, order: &O, t: u64) -> Option<Job>
-        ensures { result ≡ first_of (before order.now) (arrived t (firsts (nexts self.now) 7)) }
+        ensures { result ≡ first_of (O.before order.now) (arrived t (firsts (nexts self.now) 7)) }
     {
         let mut best = None;
         for q in 1..8 {
@@ -87,7 +87,7 @@ impl Queues {
 
     // The walk's next window: at `t`, or where nothing has arrived by then at the least arrival.
     pub fn next_window<O: ServingOrder>(&self, order: &O, t: u64) -> Option<Window>
-        ensures { result ≡ next (before order.now) t (firsts (nexts self.now) 7) }
+        ensures { result ≡ next (O.before order.now) t (firsts (nexts self.now) 7) }
     {
         let least = self.least_arrival()?;
         let start = t.max(least);

@@ -67,8 +67,8 @@ fn planned<O: ServingOrder>(
 ) -> Result<usize, SearchFault>
     requires memory { (1024 ≤ length list.old) × (1024 ≤ length windows.old) }
     ensures { MatchResult result
-        (λ n. Planned (planned_list (before order.now) (cycle_packets sheet.now)) n list.old list.new)
-        (λ e. planned_list (before order.now) (cycle_packets sheet.now) ≡ Err e) }
+        (λ n. Planned (planned_list (O.before order.now) (cycle_packets sheet.now)) n list.old list.new)
+        (λ e. planned_list (O.before order.now) (cycle_packets sheet.now) ≡ Err e) }
 {
     let mut queues = Queues::of(sheet);
     let placed = walk(sheet, order, &mut queues, windows)?;
@@ -85,7 +85,7 @@ pub fn search<O: ServingOrder>(
     list: &mut [Entry],
     windows: &mut [Window],
 ) -> Result<usize, SearchFault>
-    ensures { Searched (before order.now) sheet.now list.old windows.old result list.new windows.new }
+    ensures { Searched (O.before order.now) sheet.now list.old windows.old result list.new windows.new }
 {
     if sheet.flows().len() == 0 {
         return Err(SearchFault::EmptySheet);

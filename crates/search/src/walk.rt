@@ -82,8 +82,8 @@ pub fn walk<O: ServingOrder>(
     ensures value { MatchResult result
         (λ t. Tallied sheet.now.cycle windows.new t
         × (admitted_end (standing windows.new t) ≡ 0)
-        × (walk_of (before order.now) sheet.now queues.old ≡ Ok (standing windows.new t)))
-        (λ e. walk_of (before order.now) sheet.now queues.old ≡ Err e) }
+        × (walk_of (O.before order.now) sheet.now queues.old ≡ Ok (standing windows.new t)))
+        (λ e. walk_of (O.before order.now) sheet.now queues.old ≡ Err e) }
     ensures come { AllCome (traffic_of sheet.now) sheet.now.cycle queues.new }
     ensures optional { queue_at queues.new 0 ≡ queue_at queues.old 0 }
 {

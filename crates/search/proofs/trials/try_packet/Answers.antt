@@ -15,7 +15,7 @@ use Rattle.search.proofs.trials.try_packet.Goals as goal
 pub room_for-requires : goal.room_for-requires
 room_for-requires c =
     let ms = c.args.windows.now in
-    let t = c.args.so-far in
+    let t = c.args.so_far in
     let n = t.tally.windows in
     let zero-off : n - 0 ≡ n = omega arith in
     let cut : standing ms t.tally ≡ take (n - 0) ms = ap (λ (k : ℕ). take k ms) (sym zero-off) in
@@ -30,7 +30,7 @@ room_for-requires c =
 pub returns-in_default : goal.returns-in_default
 returns-in_default c =
     let ms = c.args.windows.now in
-    let t = c.args.so-far in
+    let t = c.args.so_far in
     let p = c.args.job in
     let ws = standing ms t.tally in
     let n = c.windows_passed-passed.result in
@@ -46,7 +46,7 @@ returns-in_default c =
 pub returns-then-entries-gt-MOST_ENTRIES : goal.returns-then-entries-gt-MOST_ENTRIES
 returns-then-entries-gt-MOST_ENTRIES c =
     let ms = c.args.windows.now in
-    let t = c.args.so-far in
+    let t = c.args.so_far in
     let p = c.args.job in
     let ws = standing ms t.tally in
     let n = c.windows_passed-passed.result in
@@ -67,7 +67,7 @@ returns-then-entries-gt-MOST_ENTRIES c =
 pub returns-in-Ok : goal.returns-in-Ok
 returns-in-Ok c =
     let ms = c.args.windows.now in
-    let t = c.args.so-far in
+    let t = c.args.so_far in
     let p = c.args.job in
     let ws = standing ms t.tally in
     let n = c.windows_passed-passed.result in
@@ -89,7 +89,7 @@ returns-in-Ok c =
 pub returns-in-Err : goal.returns-in-Err
 returns-in-Err c =
     let ms = c.args.windows.now in
-    let t = c.args.so-far in
+    let t = c.args.so_far in
     let p = c.args.job in
     let ws = standing ms t.tally in
     let n = c.windows_passed-passed.result in

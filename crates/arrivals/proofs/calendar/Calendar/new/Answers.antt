@@ -37,7 +37,7 @@ invariant_of-result c =
     let cs = cursor_list c.first_cursors-cursors.result in
     let short : c.cycle.result ≤ 1000000000 = omega (arith, c.cycle.ensures, c.args.sheet.now.short) in
     let first : FirstCursors c.args.sort fs end cs = subst (λ (gs : List Flow). FirstCursors c.args.sort gs end cs) c.flows-flows.ensures c.first_cursors-cursors.ensures in
-    (end_bound c.args.cycles c.cycle.result c.if-cycles-gt-MOST_CYCLES.false short, (first.ordered, (first.stands, tt)))
+    record { early = end_bound c.args.cycles c.cycle.result c.if-cycles-gt-MOST_CYCLES.false short; ordered = first.ordered; stands = first.stands }
 
 pub returns : goal.returns
 returns c =

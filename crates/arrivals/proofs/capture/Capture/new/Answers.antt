@@ -6,7 +6,7 @@ use Rattle.arrivals.specs.Sources.{rises}
 use Rattle.arrivals.specs.Captures.{capturable}
 use Rattle.arrivals.proofs.Capturing.{no_packet, one_record, one_more, no_rise, too_many}
 use Rattle.arrivals.proofs.capture.Capture.new.Goals as goal
-use Rattle.arrivals.proofs.capture.Capture.new.Goals.{then-i-ge-MOST-PACKETS-via-then-i-ge-MOST-PACKETS, then-i-ge-MOST-PACKETS-via-else-i-ge-MOST-PACKETS+then-not-rises}
+use Rattle.arrivals.proofs.capture.Capture.new.Goals.{then-i-ge-MOST_PACKETS-via-then-i-ge-MOST_PACKETS, then-i-ge-MOST_PACKETS-via-else-i-ge-MOST_PACKETS+then-not-rises}
 
 pub loop-i-init : goal.loop-i-init
 loop-i-init c = (one_record c.args.packets.now, omega arith, omega arith)
@@ -21,8 +21,8 @@ returns-then-i-ge-MOST_PACKETS c =
     let i = c.loop-i.i in
     let fault : capturable (take (i + 1) ps) ≡ false =
     elim c.then-i-ge-MOST_PACKETS.branch [
-      | then-i-ge-MOST-PACKETS-via-then-i-ge-MOST-PACKETS w ↦ too_many ps i no_packet (omega arith) c.loop-i-test.true w.if-i-ge-MOST_PACKETS.true
-      | then-i-ge-MOST-PACKETS-via-else-i-ge-MOST-PACKETS+then-not-rises w ↦ no_rise ps i no_packet (omega arith) c.loop-i-test.true (sym w.if-not-rises.ensures)
+      | then-i-ge-MOST_PACKETS-via-then-i-ge-MOST_PACKETS w ↦ too_many ps i no_packet (omega arith) c.loop-i-test.true w.if-i-ge-MOST_PACKETS.true
+      | then-i-ge-MOST_PACKETS-via-else-i-ge-MOST_PACKETS+then-not-rises w ↦ no_rise ps i no_packet (omega arith) c.loop-i-test.true (sym w.if-not-rises.ensures)
     ] in
     let at : i ≡ i + 1 - 1 = omega arith in
     record { counts = omega arith; within = omega (arith, c.loop-i-test.true); before = ap (λ (k : ℕ). capturable (take k ps)) (sym at) ∙ c.loop-i.invariant.0; after = fault }

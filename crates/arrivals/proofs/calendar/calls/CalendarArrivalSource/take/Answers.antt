@@ -52,7 +52,7 @@ invariant_of-self c =
     let is = sym c.first.ensures ∙ c.in_ok-packet.was in
     let to = moved m c.in_ok-packet.packet c.flows-flows.result.now c.next_packet-next.result is c.flows-flows.ensures c.next_packet-next.ensures in
     let stands = subst (λ (cs : List Cursor). standing m.sort m.sheet.now.flows.items m.end cs ≡ true) (sym (c.replace_first.ensures.holds m.ordered)) to.stands in
-    (m.early, (c.replace_first.ensures.ordered m.ordered, (stands, tt)))
+    record { early = m.early; ordered = c.replace_first.ensures.ordered m.ordered; stands = stands }
 
 pub returns : goal.returns
 returns c =
