@@ -1,6 +1,6 @@
 // Checks each list of a folder for its sheet and compares the answer with the one that stands beside it.
 use anyhow::Context;
-use check::acceptance::check;
+use list_check::acceptance::check;
 use gates::entry::Entry;
 use refusal::{Refusal, refusal_text};
 use sheet::refusals::sheet_refusal;

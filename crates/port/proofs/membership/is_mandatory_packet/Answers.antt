@@ -12,4 +12,4 @@ returns c =
     let s = traffic_of c.args.sheet.now in
     let p = c.args.packet.now in
     let o = ours_from s p c.requires in
-    c.is-mandatory.ensures ∙ ap (λ (f : Flow). mandatory_at f p.number) (flow-is s c.flows.result.now p.flow c.flows.ensures o.from_one)
+    c.is_mandatory.ensures ∙ ap (λ (f : Flow). mandatory_at f p.number) (flow-is s c.flows.result.now p.flow c.flows.ensures o.from_one)

@@ -7,13 +7,13 @@ use Rattle.port.specs.declared.waiting.Waiting.{Waiting}
 use Rattle.port.specs.Waiting.{packet_of, nothing}
 use Rattle.port.proofs.waiting.is_among.Goals as goal
 
-pub returns-then-is-it : goal.returns-then-is-it
-returns-then-is-it c =
+pub returns-then-is_it : goal.returns-then-is_it
+returns-then-is_it c =
     let ws = c.args.waiting.now in
     let p = c.args.packet.now in
     let i = c.loop-w.w-index in
     let step : holds (map packet_of (drop i ws)) p ≡ same p (packet_of (get_or ws i nothing)) || holds (map packet_of (drop (i + 1) ws)) p = at_drop_more (λ (xs : List Waiting). holds (map packet_of xs) p) ws i nothing c.loop-w-test.true in
-    sym (rw (sym c.is-it.ensures ∙ c.if-is-it.true) at step) ∙ c.loop-w.invariant
+    sym (rw (sym c.is_it.ensures ∙ c.if-is_it.true) at step) ∙ c.loop-w.invariant
 
 pub loop-w-preserved : goal.loop-w-preserved
 loop-w-preserved c =
@@ -21,7 +21,7 @@ loop-w-preserved c =
     let p = c.args.packet.now in
     let i = c.loop-w.w-index in
     let step : holds (map packet_of (drop i ws)) p ≡ same p (packet_of (get_or ws i nothing)) || holds (map packet_of (drop (i + 1) ws)) p = at_drop_more (λ (xs : List Waiting). holds (map packet_of xs) p) ws i nothing c.loop-w-test.true in
-    sym (rw (sym c.is-it.ensures ∙ c.if-is-it.false) at step) ∙ c.loop-w.invariant
+    sym (rw (sym c.is_it.ensures ∙ c.if-is_it.false) at step) ∙ c.loop-w.invariant
 
 pub returns : goal.returns
 returns c =

@@ -7,14 +7,14 @@ use Rattle.sending.proofs.Fitting.{read_sheets_fit}
 use Rattle.port.proofs.Passing.{unswitched}
 use Rattle.port.proofs.port.Port.before_switch.Goals as goal
 
-pub nonzero-rem-gone : goal.nonzero-rem-gone
-nonzero-rem-gone c =
+pub nonzero_rem-gone : goal.nonzero_rem-gone
+nonzero_rem-gone c =
     let sheet = c.args.self.now.sheet.now in
     let some : 0 < cycle (traffic_of sheet) = (read_sheets_fit (traffic_of sheet) sheet.kept).some_time in
     omega (arith, c.cycle-cycle.ensures, sheet.round)
 
-pub overflow-sub-cycle : goal.overflow-sub-cycle
-overflow-sub-cycle c =
+pub overflow_sub-cycle : goal.overflow_sub-cycle
+overflow_sub-cycle c =
     let sheet = c.args.self.now.sheet.now in
     let some : 0 < cycle (traffic_of sheet) = (read_sheets_fit (traffic_of sheet) sheet.kept).some_time in
     let pos : 0 < c.cycle-cycle.result = omega (arith, c.cycle-cycle.ensures, sheet.round) in

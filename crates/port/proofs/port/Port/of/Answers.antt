@@ -7,8 +7,8 @@ use Rattle.port.proofs.Ampleness.{new_ample}
 use Rattle.port.proofs.Deciding.{new-lined, new_is}
 use Rattle.port.proofs.port.Port.of.Goals as goal
 
-pub invariant-of-result : goal.invariant-of-result
-invariant-of-result c =
+pub invariant_of-result : goal.invariant_of-result
+invariant_of-result c =
     let s = traffic_of c.args.sheet.now in
     let x = c.new.result in
     let none = c.new.ensures.lanes in

@@ -5,15 +5,15 @@ use Rattle.sheet.specs.Contents.{traffic_of}
 use Rattle.port.proofs.Passing.{passed, passed_ample}
 use Rattle.port.proofs.port.Port.pass.Goals as goal
 
-pub invariant-of-self : goal.invariant-of-self
-invariant-of-self c =
+pub invariant_of-self : goal.invariant_of-self
+invariant_of-self c =
     let m = c.args.self.now in
     let s = traffic_of m.sheet.now in (
-      omega (arith, c.before-start-next.ensures.high, c.before-switch-switch.ensures.high, c.before-arrival-arrival.ensures.high, c.requires.1),
+      omega (arith, c.before_start-next.ensures.high, c.before_switch-switch.ensures.high, c.before_arrival-arrival.ensures.high, c.requires.1),
       (
         m.lined,
         (
-          passed_ample s m.list.now (option_map (λ x. x.now) m.pending) m.station m.clock c.before-arrival-arrival.result c.before-switch-switch.result c.before-start-next.result c.args.end c.args.head c.before-arrival-arrival.ensures c.before-switch-switch.ensures c.before-start-next.ensures m.ample,
+          passed_ample s m.list.now (option_map (λ x. x.now) m.pending) m.station m.clock c.before_arrival-arrival.result c.before_switch-switch.result c.before_start-next.result c.args.end c.args.head c.before_arrival-arrival.ensures c.before_switch-switch.ensures c.before_start-next.ensures m.ample,
           tt,
         ),
       ),
@@ -25,7 +25,7 @@ returns c =
     let s = traffic_of m.sheet.now in
     record {
       sheet = refl;
-      forth = c.before-start-next.ensures.low;
-      within = omega (arith, c.before-start-next.ensures.high, c.before-switch-switch.ensures.high, c.before-arrival-arrival.ensures.high);
-      same = passed s m.list.now (option_map (λ x. x.now) m.pending) m.station m.clock c.before-arrival-arrival.result c.before-switch-switch.result c.before-start-next.result c.args.end c.args.head c.before-arrival-arrival.ensures c.before-switch-switch.ensures c.before-start-next.ensures;
+      forth = c.before_start-next.ensures.low;
+      within = omega (arith, c.before_start-next.ensures.high, c.before_switch-switch.ensures.high, c.before_arrival-arrival.ensures.high);
+      same = passed s m.list.now (option_map (λ x. x.now) m.pending) m.station m.clock c.before_arrival-arrival.result c.before_switch-switch.result c.before_start-next.result c.args.end c.args.head c.before_arrival-arrival.ensures c.before_switch-switch.ensures c.before_start-next.ensures;
     }

@@ -8,14 +8,14 @@ use Rattle.port.specs.Quiet.{steady, can_start}
 use Rattle.port.proofs.Blocking.{blocked_on}
 use Rattle.port.proofs.station.Station.before_start.Goals as goal
 
-pub nonzero-rem-offset : goal.nonzero-rem-offset
-nonzero-rem-offset c =
+pub nonzero_rem-offset : goal.nonzero_rem-offset
+nonzero_rem-offset c =
     let sheet = c.args.sheet.now in
     let some : 0 < cycle (traffic_of sheet) = (read_sheets_fit (traffic_of sheet) sheet.kept).some_time in
     omega (arith, c.cycle-cycle.ensures, sheet.round)
 
-pub overflow-sub-cycle : goal.overflow-sub-cycle
-overflow-sub-cycle c =
+pub overflow_sub-cycle : goal.overflow_sub-cycle
+overflow_sub-cycle c =
     let sheet = c.args.sheet.now in
     let some : 0 < cycle (traffic_of sheet) = (read_sheets_fit (traffic_of sheet) sheet.kept).some_time in
     let pos : 0 < c.cycle-cycle.result = omega (arith, c.cycle-cycle.ensures, sheet.round) in
@@ -31,7 +31,7 @@ returns c =
     let t = c.args.clock in
     let is : c.cycle-cycle.result ≡ cycle s = c.cycle-cycle.ensures ∙ sheet.round in
     let off : t % c.cycle-cycle.result ≡ t % cycle s = ap (λ (a : ℕ). t % a) is in
-    let cannot : can_start x.lanes es (t % cycle s) (open_at es (t % cycle s)) ≡ false = subst (λ (o : ℕ). can_start x.lanes es o (open_at es o) ≡ false) off (sym c.can_start.ensures ∙ c.if-can-start.false) in
+    let cannot : can_start x.lanes es (t % cycle s) (open_at es (t % cycle s)) ≡ false = subst (λ (o : ℕ). can_start x.lanes es o (open_at es o) ≡ false) off (sym c.can_start.ensures ∙ c.if-can_start.false) in
     let stays : c.steady.result ≡ steady es (t % cycle s) = c.steady.ensures ∙ ap (steady es) off in
     record {
       low = omega (arith, c.min-2.ensures, c.requires.early.0);

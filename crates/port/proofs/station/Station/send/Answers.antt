@@ -7,8 +7,8 @@ use Rattle.sending.specs.Calls.{of_sheet}
 use Rattle.port.proofs.Outgo.{ours, sent_start, long_enough}
 use Rattle.port.proofs.station.Station.send.Goals as goal
 
-pub is-mandatory-packet-requires : goal.is-mandatory-packet-requires
-is-mandatory-packet-requires c =
+pub is_mandatory_packet-requires : goal.is_mandatory_packet-requires
+is_mandatory_packet-requires c =
     let s = traffic_of c.args.sheet.now in
     let good = ours s c.args.list.now c.args.at c.args.offset c.args.self.now c.requires.lined c.in-Some.queue (sym c.in-Some.ensures.value) c.in-Some-first.first c.in-Some-first.ensures in
     subst (λ (p : Packet). of_sheet s p ≡ true) (sym c.packet-packet.ensures) good
@@ -19,5 +19,5 @@ returns c =
     let es = c.args.list.now in
     let w = c.in-Some-first.first in
     let q = c.in-Some.queue in
-    let fits = long_enough c.open_for.ensures.stays es q c.args.offset w.job.wire c.open_for.result c.open_for.ensures.value c.if-open-for-first.false in
-    sent_start s es c.args.at c.args.offset c.args.self.now c.requires.lined q (sym c.in-Some.ensures.value) w c.in-Some-first.ensures c.if-self-at.false fits c.leave.new.self c.leave.ensures c.add-start.new.self c.packet-packet.result c.is-mandatory-packet.result c.packet-packet.ensures (c.is-mandatory-packet.ensures ∙ ap (mandatory s) c.packet-packet.ensures) c.add-start.ensures
+    let fits = long_enough c.open_for.ensures.stays es q c.args.offset w.job.wire c.open_for.result c.open_for.ensures.value c.if-open_for-first.false in
+    sent_start s es c.args.at c.args.offset c.args.self.now c.requires.lined q (sym c.in-Some.ensures.value) w c.in-Some-first.ensures c.if-self-at.false fits c.leave.new.self c.leave.ensures c.add_start.new.self c.packet-packet.result c.is_mandatory_packet.result c.packet-packet.ensures (c.is_mandatory_packet.ensures ∙ ap (mandatory s) c.packet-packet.ensures) c.add_start.ensures

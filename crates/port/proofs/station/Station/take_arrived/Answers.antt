@@ -5,8 +5,8 @@ use Rattle.port.specs.Station.{taking}
 use Rattle.port.proofs.Arrived.{by_then, room-one, room_next, taken_next, head_arrived}
 use Rattle.port.proofs.station.Station.take_arrived.Goals as goal
 
-pub take-in-requires : goal.take-in-requires
-take-in-requires g c =
+pub take_in-requires : goal.take_in-requires
+take_in-requires g c =
     let s = traffic_of c.args.sheet.now in
     let xs = g.S.ArrivalSource.arrivals c.loop-packet.source in
     let came = by_then c.args.at xs c.in-Some.packet c.in-Some.ensures.value in
@@ -22,11 +22,11 @@ loop-packet-preserved g c =
     let es = c.args.list.now in
     let t = c.args.at in
     let x = c.loop-packet.self in
-    let y = c.take-in.new.self in
+    let y = c.take_in.new.self in
     let p = c.in-Some.packet in
     let xs = g.S.ArrivalSource.arrivals c.loop-packet.source in
     let told = c.in-Some.ensures in
     let came = by_then t xs p told.value in
-    let rest : taking s es t y (g.S.ArrivalSource.arrivals c.next-arrived.new.source) ≡ taking s es t x xs =
-    ap (taking s es t y) told.after ∙ sym (taken_next s es t p x came y c.take-in.ensures _) ∙ ap (taking s es t x) (sym (head_arrived t xs p told.value)) in
-    (rest ∙ c.loop-packet.invariant.0, c.take-in.ensures.lined, room_next s es t p x came y c.take-in.ensures c.loop-packet.invariant.2)
+    let rest : taking s es t y (g.S.ArrivalSource.arrivals c.next_arrived.new.source) ≡ taking s es t x xs =
+    ap (taking s es t y) told.after ∙ sym (taken_next s es t p x came y c.take_in.ensures _) ∙ ap (taking s es t x) (sym (head_arrived t xs p told.value)) in
+    (rest ∙ c.loop-packet.invariant.0, c.take_in.ensures.lined, room_next s es t p x came y c.take_in.ensures c.loop-packet.invariant.2)

@@ -25,7 +25,7 @@ join-requires c =
     let ours = welcome_ours s c.args.list.now c.args.at p st c.requires.lined passed in
     record {
       there = subst (λ (j : Job). j.queue < 8) (sym is) (queue_low s (read_sheets_fit s c.args.sheet.now.kept) p (ours_from s p ours));
-      room = has_room s c.args.list.now c.args.at p st c.requires.lined passed (sym c.is-admitted.ensures ∙ c.if-is-admitted.true) c.in-Some.job is c.requires.room;
+      room = has_room s c.args.list.now c.args.at p st c.requires.lined passed (sym c.is_admitted.ensures ∙ c.if-is_admitted.true) c.in-Some.job is c.requires.room;
     }
 
 pub returns : goal.returns
@@ -40,10 +40,10 @@ returns c =
     elim c.match-welcome.branch [
       | in-Some+then-is-admitted w ↦
           let told = w.in-Some.ensures in
-          subst Goal (sym w.self-is) (takes_joined s es t p st c.requires.lined (some_passed b w.in-Some.job (job_of s p) told) (sym w.is-admitted.ensures ∙ w.if-is-admitted.true) w.in-Some.job (some_cond b w.in-Some.job (job_of s p) told) w.join.new.self w.join.ensures)
+          subst Goal (sym w.self-is) (takes_joined s es t p st c.requires.lined (some_passed b w.in-Some.job (job_of s p) told) (sym w.is_admitted.ensures ∙ w.if-is_admitted.true) w.in-Some.job (some_cond b w.in-Some.job (job_of s p) told) w.join.new.self w.join.ensures)
       | in-Some+else-is-admitted w ↦
           let told = w.in-Some.ensures in
-          subst Goal (sym w.self-is) (takes_unadmitted s es t p st c.requires.lined (some_passed b w.in-Some.job (job_of s p) told) (sym w.is-admitted.ensures ∙ w.if-is-admitted.false) w.add-unadmitted.new.self w.add-unadmitted.ensures)
+          subst Goal (sym w.self-is) (takes_unadmitted s es t p st c.requires.lined (some_passed b w.in-Some.job (job_of s p) told) (sym w.is_admitted.ensures ∙ w.if-is_admitted.false) w.add_unadmitted.new.self w.add_unadmitted.ensures)
       | in-None w ↦
-          subst Goal (sym w.self-is) (takes_foreign s es t p st c.requires.lined (none_cond b (job_of s p) w.in-None.ensures) w.add-foreign.new.self w.add-foreign.ensures)
+          subst Goal (sym w.self-is) (takes_foreign s es t p st c.requires.lined (none_cond b (job_of s p) w.in-None.ensures) w.add_foreign.new.self w.add_foreign.ensures)
     ]

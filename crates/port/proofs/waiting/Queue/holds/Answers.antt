@@ -11,7 +11,7 @@ returns c =
     let q = c.args.self.now in
     let p = c.args.packet.now in
     let long : length q.table ≡ 64 = omega arith in
-    let front = c.split-at.ensures.front in
+    let front = c.split_at.ensures.front in
     let least : c.min.result ≡ min q.count 64 = omega (arith, c.min.ensures) in
     let both = front ∙ ap (λ (n : ℕ). take n q.table) least ∙ take_min q.count 64 q.table long in
-    c.is-among.ensures ∙ ap (λ (ws : List Waiting). holds (map packet_of ws) p) both
+    c.is_among.ensures ∙ ap (λ (ws : List Waiting). holds (map packet_of ws) p) both
