@@ -54,7 +54,7 @@ impl<'a> Port<'a> {
         until: u64,
     ) -> Result<Option<Start>, AdvanceFault>
         ensures allowed { is_ok result ≡ may_advance (meaning self.old) until }
-        ensures cases { MatchResult result (λ o. Advances o until self.old (arrivals source.old) self.new (arrivals source.new)) (λ _. Unmoved self.old (arrivals source.old) self.new (arrivals source.new)) }
+        ensures cases { MatchResult result (λ o. Advances o until self.old (S.arrivals source.old) self.new (S.arrivals source.new)) (λ _. Unmoved self.old (S.arrivals source.old) self.new (S.arrivals source.new)) }
     {
         if until < self.clock || until > LAST_INSTANT {
             return Err(AdvanceFault);

@@ -45,7 +45,7 @@ impl<'a> Port<'a> {
     // Decides the instant at the clock, and answers what starts then.
     fn decide<S: ArrivalSource>(&mut self, source: &mut S) -> Option<Packet>
         requires { self.old.clock < 4000000000000000000 }
-        ensures { Decides result self.old (arrivals source.old) self.new (arrivals source.new) }
+        ensures { Decides result self.old (S.arrivals source.old) self.new (S.arrivals source.new) }
     {
         let at = self.clock;
         let offset = at % self.sheet.cycle();
@@ -91,7 +91,7 @@ impl<'a> Port<'a> {
     // Decides the instants up to the end, or up to a start, which it answers.
     pub(crate) fn run_to<S: ArrivalSource>(&mut self, source: &mut S, end: u64) -> Option<Start>
         requires { (self.old.clock ≤ end) × (end ≤ 4000000000000000000) }
-        ensures { Advances result end self.old (arrivals source.old) self.new (arrivals source.new) }
+        ensures { Advances result end self.old (S.arrivals source.old) self.new (S.arrivals source.new) }
     {
         while self.clock < end {
             let at = self.clock;

@@ -16,8 +16,8 @@ use traffic::packet::{Job, Packet};
 
 // The head of the source, taken, if it has arrived by this instant.
 fn next_arrived<S: ArrivalSource>(source: &mut S, at: u64) -> Option<Packet>
-    ensures value { result ≡ arrived_head at (arrivals source.old) }
-    ensures after { arrivals source.new ≡ behind_arrived at (arrivals source.old) }
+    ensures value { result ≡ arrived_head at (S.arrivals source.old) }
+    ensures after { S.arrivals source.new ≡ behind_arrived at (S.arrivals source.old) }
 {
     match source.head() {
         Some(packet) => {
@@ -83,7 +83,7 @@ impl Station {
         requires lined { Lined (traffic_of sheet.now) self.old.lanes }
         requires early { at ≤ 4000000000000000000 }
         requires room { Room (traffic_of sheet.now) list.now at self.old }
-        ensures { TookAll (traffic_of sheet.now) list.now at (arrivals source.old) self.old self.new (arrivals source.new) }
+        ensures { TookAll (traffic_of sheet.now) list.now at (S.arrivals source.old) self.old self.new (S.arrivals source.new) }
     {
         while let Some(packet) = next_arrived(source, at) {
             self.take_in(sheet, list, at, packet);

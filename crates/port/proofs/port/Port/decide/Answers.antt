@@ -27,17 +27,12 @@ pub invariant_of-self : goal.invariant_of-self
 invariant_of-self g c =
     let m = c.args.self.now in
     let s = traffic_of m.sheet.now in
-    let o_is : m.clock % c.cycle.result ≡ m.clock % cycle s = ap (λ (a : ℕ). m.clock % a) (c.cycle.ensures ∙ m.sheet.now.round) in (
-      omega (arith, c.requires),
-      (
-        c.send-start.ensures.lined,
-        (
-          decided_ample s m.clock m.list.now (option_map (λ x. x.now) m.pending) m.station (m.clock % c.cycle.result) o_is c.in_force.result.0.now c.in_force.ensures.force (option_map (λ x. x.now) c.in_force.result.1) c.in_force.ensures.pends
-              (g.S.ArrivalSource.arrivals c.args.source.now) (g.S.ArrivalSource.arrivals c.take_arrived.new.source) c.take_arrived.new.self c.send-start.new.self c.send-start.result c.take_arrived.ensures c.send-start.ensures m.ample,
-          tt,
-        ),
-      ),
-    )
+    let o_is : m.clock % c.cycle.result ≡ m.clock % cycle s = ap (λ (a : ℕ). m.clock % a) (c.cycle.ensures ∙ m.sheet.now.round) in record {
+      early = omega (arith, c.requires);
+      lined = c.send-start.ensures.lined;
+      ample = decided_ample s m.clock m.list.now (option_map (λ x. x.now) m.pending) m.station (m.clock % c.cycle.result) o_is c.in_force.result.0.now c.in_force.ensures.force (option_map (λ x. x.now) c.in_force.result.1) c.in_force.ensures.pends
+          (g.S.ArrivalSource.arrivals c.args.source.now) (g.S.ArrivalSource.arrivals c.take_arrived.new.source) c.take_arrived.new.self c.send-start.new.self c.send-start.result c.take_arrived.ensures c.send-start.ensures m.ample;
+    }
 
 pub returns : goal.returns
 returns g c =

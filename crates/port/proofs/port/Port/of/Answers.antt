@@ -14,7 +14,7 @@ invariant_of-result c =
     let none = c.new.ensures.lanes in
     let few : length s.flows ≤ 64 = search rules in
     let ample = new_ample s (read_sheets_fit s c.args.sheet.now.kept) few c.args.list.now c.requires in
-    (omega arith, (new-lined s x none, (subst (Ample s) (sym (new_is s x none c.args.list.now c.new.ensures.parts)) ample, tt)))
+    record { early = omega arith; lined = new-lined s x none; ample = subst (Ample s) (sym (new_is s x none c.args.list.now c.new.ensures.parts)) ample }
 
 pub returns : goal.returns
 returns c = (refl, new_is (traffic_of c.args.sheet.now) c.new.result c.new.ensures.lanes c.args.list.now c.new.ensures.parts)

@@ -8,16 +8,7 @@ use Rattle.port.proofs.port.Port.pass.Goals as goal
 pub invariant_of-self : goal.invariant_of-self
 invariant_of-self c =
     let m = c.args.self.now in
-    let s = traffic_of m.sheet.now in (
-      omega (arith, c.before_start-next.ensures.high, c.before_switch-switch.ensures.high, c.before_arrival-arrival.ensures.high, c.requires.1),
-      (
-        m.lined,
-        (
-          passed_ample s m.list.now (option_map (λ x. x.now) m.pending) m.station m.clock c.before_arrival-arrival.result c.before_switch-switch.result c.before_start-next.result c.args.end c.args.head c.before_arrival-arrival.ensures c.before_switch-switch.ensures c.before_start-next.ensures m.ample,
-          tt,
-        ),
-      ),
-    )
+    let s = traffic_of m.sheet.now in record { early = omega (arith, c.before_start-next.ensures.high, c.before_switch-switch.ensures.high, c.before_arrival-arrival.ensures.high, c.requires.1); lined = m.lined; ample = passed_ample s m.list.now (option_map (λ x. x.now) m.pending) m.station m.clock c.before_arrival-arrival.result c.before_switch-switch.result c.before_start-next.result c.args.end c.args.head c.before_arrival-arrival.ensures c.before_switch-switch.ensures c.before_start-next.ensures m.ample }
 
 pub returns : goal.returns
 returns c =

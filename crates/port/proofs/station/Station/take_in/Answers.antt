@@ -11,7 +11,7 @@ use Rattle.sending.proofs.Source.{ours_from}
 use Rattle.port.proofs.Sheets.{queue_low, some_cond, some_passed, none_cond}
 use Rattle.port.proofs.Intake.{welcome_ours, has_room, takes_joined, takes_unadmitted, takes_foreign}
 use Rattle.port.proofs.station.Station.take_in.Goals as goal
-use Rattle.port.proofs.station.Station.take_in.Goals.{in-Some+then-is-admitted, in-Some+else-is-admitted, in-None}
+use Rattle.port.proofs.station.Station.take_in.Goals.{in-Some+then-is_admitted, in-Some+else-is_admitted, in-None}
 
 pub join-requires : goal.join-requires
 join-requires c =
@@ -38,10 +38,10 @@ returns c =
     let b = welcome s t st.last (state_of st) p in
     let Goal : Station → Type 0 = λ x. TookIn s es t p st (record { lanes = x.lanes; free = x.free; last = Some p; counts = x.counts }) in
     elim c.match-welcome.branch [
-      | in-Some+then-is-admitted w ↦
+      | in-Some+then-is_admitted w ↦
           let told = w.in-Some.ensures in
           subst Goal (sym w.self-is) (takes_joined s es t p st c.requires.lined (some_passed b w.in-Some.job (job_of s p) told) (sym w.is_admitted.ensures ∙ w.if-is_admitted.true) w.in-Some.job (some_cond b w.in-Some.job (job_of s p) told) w.join.new.self w.join.ensures)
-      | in-Some+else-is-admitted w ↦
+      | in-Some+else-is_admitted w ↦
           let told = w.in-Some.ensures in
           subst Goal (sym w.self-is) (takes_unadmitted s es t p st c.requires.lined (some_passed b w.in-Some.job (job_of s p) told) (sym w.is_admitted.ensures ∙ w.if-is_admitted.false) w.add_unadmitted.new.self w.add_unadmitted.ensures)
       | in-None w ↦
