@@ -18,8 +18,8 @@ pub fn lawful_search<O: ServingOrder>(
     list: &mut [Entry],
     windows: &mut [Window],
 ) -> Result<usize, SearchFault>
-    ensures searched { Searched (before order.now) sheet.now list.old windows.old result list.new windows.new }
-    ensures law { MatchResult result (λ n. Lawful (before order.now) sheet.now (take n list.new)) (Rightly (before order.now) sheet.now) }
+    ensures searched { Searched (O.before order.now) sheet.now list.old windows.old result list.new windows.new }
+    ensures law { MatchResult result (λ n. Lawful (O.before order.now) sheet.now (take n list.new)) (Rightly (O.before order.now) sheet.now) }
 {
     search(sheet, order, list, windows)
 }

@@ -14,7 +14,7 @@ pub returns-in-Ok : goal.returns-in-Ok
 returns-in-Ok c =
     let s = c.args.sheet.now in
     let old = c.args.list.now in
-    let after = c.lawful-search.new.list in
+    let after = c.lawful_search.new.list in
     let n = c.in-Ok.n in
     let r = found deadline_monotonic s (length old) (length c.args.windows.now) in
     let list = found-list r n old after c.in-Ok.ensures.searched.value c.in-Ok.ensures.searched.list in

@@ -8,5 +8,5 @@ use Rattle.planner.proofs.list_text.Goals as goal
 pub returns : goal.returns
 returns c =
     let list = c.args.list.now in
-    let room : length c.as-mut-slice.result.now ≡ 30720 = c.as-mut-slice.ensures.len ∙ c.in-ok-memory.ensures.len in
-    made-same c.written-in.result _ _ (ap (λ (n : ℕ). written list (write_fault list n)) room) c.written-in.ensures
+    let room : length c.as_mut_slice.result.now ≡ 30720 = c.as_mut_slice.ensures.len ∙ c.in_ok-memory.ensures.len in
+    made-same c.written_in.result _ _ (ap (λ (n : ℕ). written list (write_fault list n)) room) c.written_in.ensures
