@@ -1,4 +1,6 @@
 // Where a port's packets come from: sources of packets, as lists of what is still to come.
+#![tactic(auto)]
+
 pub mod calendar;
 pub mod capture;
 mod cursors;

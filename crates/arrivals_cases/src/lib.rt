@@ -1,4 +1,6 @@
 // Arrival sources by example.
+#![tactic(auto)]
+
 ghost use Rattle.std.specs.Prelude.{◌≡◌};
 
 use traffic::packet::Packet;

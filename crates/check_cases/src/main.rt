@@ -1,7 +1,9 @@
 // Checks each list of a folder for its sheet and compares the answer with the one that stands beside it.
+#![tactic(auto)]
+
 use anyhow::Context;
-use list_check::acceptance::check;
 use gates::entry::Entry;
+use list_check::acceptance::check;
 use refusal::{Refusal, refusal_text};
 use sheet::refusals::sheet_refusal;
 use sheet::sheet::Sheet;

@@ -1,16 +1,16 @@
 -- What is left of a queue's packets, from the next packet of each flow on. Assumes nothing.
-use Rattle.std.proofs.Common.{◌≡◌, ℕ, zero, suc, ◌+◌, ◌<◌, ◌≤◌, Bool, true, false, cond, not, ◌&&◌, ◌||◌, eqb, leb, ◌⊎◌, List, [], ◌∷◌, ◌++◌, map, length, take, drop, filter, sym, refl, ap, ◌∙◌, subst, inl, inr, ⊎_elim, arith}
+use Rattle.std.proofs.Common.{◌≡◌, ℕ, zero, suc, ◌+◌, ◌<◌, ◌≤◌, Bool, true, false, cond, ◌||◌, eqb, leb, ◌⊎◌, List, [], ◌∷◌, map, length, take, sym, refl, ap, ◌∙◌, subst, inl, inr, ⊎_elim, arith}
 use Rattle.std.specs.List.{AllByRecursion}
 use Rattle.std.proofs.ByRecursion.{All-weaker}
-use Rattle.std.proofs.lemmas.Bool.{cases_Bool, cases_eq, cases_lt, cases_order, both_ways, and_parts, and_from, and_left, and_right, or_left, or_right, or_cases, or_parts, not-true, not_from_false, eq-eqb, ne_eqb, eqb-true, le-leb, lt-leb, leb-true}
+use Rattle.std.proofs.lemmas.Bool.{cases_Bool, cases_eq, cases_lt, cases_order, both_ways, and_parts, and_from, and_left, and_right, or_left, or_cases, or_parts, not-true, not_from_false, eq-eqb, ne_eqb, eqb-true, le-leb, lt-leb, leb-true}
 use Rattle.traffic.specs.declared.packet.Job.{Job}
 use Rattle.traffic.specs.Packets.{Traffic, flow_at, arrival, queue_of, job}
 use Rattle.traffic.specs.Orders.{queue_before}
 use Rattle.traffic.proofs.Total.{queue_order}
 use Rattle.sheet.specs.Ranges.{all_kept}
-use Rattle.table.specs.Order.{in_order, none_before, before_each, placed_last}
+use Rattle.table.specs.Order.{none_before, before_each, placed_last}
 use Rattle.coming.specs.declared.coming.Next.{Next}
-use Rattle.coming.specs.Coming.{next_before, next_of, packet_of, waits_in, Due, NextDue, NoneDue, Joins, Built, Stepped, OtherFlow, Once, Lined}
+use Rattle.coming.specs.Coming.{next_before, next_of, packet_of, waits_in, Due, Joins, Built, Stepped, OtherFlow, Lined}
 use Rattle.coming.specs.Packets.{packets_before}
 use Rattle.coming.specs.Left.{at_or_after, to_come, left}
 use Rattle.coming.specs.Rising.{In}

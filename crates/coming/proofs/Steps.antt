@@ -1,12 +1,12 @@
 -- What a queue holds stays lined up as packets are taken and join. Assumes nothing.
-use Rattle.std.proofs.Common.{◌≡◌, ℕ, zero, suc, ◌+◌, ◌-◌, ◌*◌, ◌<◌, ◌≤◌, Bool, true, false, cond, not, ltb, ◌⊎◌, List, [], ◌∷◌, length, sym, refl, ap, ◌∙◌, subst, inl, inr, ⊎_elim, add-mul, arith}
+use Rattle.std.proofs.Common.{◌≡◌, ℕ, zero, suc, ◌+◌, ◌-◌, ◌*◌, ◌<◌, ◌≤◌, Bool, true, false, cond, List, [], ◌∷◌, length, sym, refl, ap, ◌∙◌, subst, inl, inr, ⊎_elim, add-mul, arith}
 use Rattle.std.specs.List.{AllByRecursion}
 use Rattle.std.proofs.ByRecursion.{All-weaker}
 use Rattle.std.proofs.lemmas.Bool.{cases_Bool, and_parts, not-true, or_parts, ltb-false}
 use Rattle.traffic.specs.declared.packet.Job.{Job}
 use Rattle.traffic.specs.Packets.{Traffic, flow_at, arrival}
 use Rattle.traffic.specs.Orders.{queue_before}
-use Rattle.table.specs.Order.{in_order, none_before, before_each, placed_last, placed}
+use Rattle.table.specs.Order.{in_order, none_before, before_each, placed_last}
 use Rattle.table.proofs.Places.{placed_last-is, in_order-placed}
 use Rattle.coming.specs.declared.coming.Next.{Next}
 use Rattle.coming.specs.Coming.{next_before, next_of, Due, NextDue, Joins, Built, Stepped, OtherFlow, Once, Lined, work}

@@ -1,4 +1,6 @@
 // The cycle in which the flows of a sheet repeat.
+#![tactic(auto)]
+
 pub mod cycle;
 pub mod multiple;
 #[cfg(test)]

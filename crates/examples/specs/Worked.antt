@@ -1,5 +1,5 @@
 -- The worked examples of the documents, as one statement over the definitions. Assumes nothing.
-use Rattle.std.specs.Prelude.{◌≡◌, ℕ}
+use Rattle.std.specs.Prelude.{◌≡◌}
 use Rattle.traffic.specs.declared.rate.Rate.TheVariants.{Mbit10}
 use Rattle.traffic.specs.Wire.{wire_time}
 use Rattle.traffic.specs.Pattern.{pattern}

@@ -1,4 +1,6 @@
 // The worked examples, shown of the definitions themselves.
+#![tactic(auto)]
+
 ghost use Rattle.examples.specs.Worked.{WorkedExamples};
 
 use sending::worked::{worked_lists, worked_run};

@@ -1,8 +1,8 @@
 -- The gates as bits of a number.
-use Rattle.std.proofs.Common.{◌≡◌, ℕ, zero, suc, ◌+◌, ◌-◌, ◌*◌, ◌/◌, ◌%◌, ◌^◌, ◌<◌, ◌≤◌, true, false, cond, eqb, Some, None, sym, refl, ap, ◌∙◌, ⊎_elim, div-one, arith}
-use native.Mathlib.Nat.{zero-div, pow-succ', div-div-eq-div-mul, mul-mod_right, mul-div_right}
+use Rattle.std.proofs.Common.{◌≡◌, ℕ, zero, suc, ◌/◌, ◌%◌, ◌^◌, ◌<◌, ◌≤◌, true, false, eqb, Some, sym, refl, ap, ◌∙◌, ⊎_elim, div-one, arith}
+use native.Mathlib.Nat.{pow-succ', div-div-eq-div-mul, mul-mod_right, mul-div_right}
 use lib.Pow.{pow-lt}
-use Rattle.std.proofs.lemmas.Bool.{cases_Bool, both_ways, eqb-true, eqb-false, eq-eqb, ne_eqb, cases_lt}
+use Rattle.std.proofs.lemmas.Bool.{cases_Bool, both_ways, eqb-true, eq-eqb, ne_eqb, cases_lt}
 use Rattle.gates.specs.Open.{opens, alone_below, gates_at}
 use Rattle.gates.specs.OpenLaws.{OneGateOpen}
 use Rattle.gates.proofs.Stays.{zero_shut}

@@ -1,7 +1,7 @@
 -- What holds of open gates. Assumes nothing.
-use Rattle.std.specs.Prelude.{◌≡◌, ℕ, ◌+◌, ◌^◌, ◌<◌, true, false, List, ◌∷◌, ◌++◌, Some, None, nat_le}
+use Rattle.std.specs.Prelude.{◌≡◌, ℕ, ◌+◌, ◌^◌, ◌<◌, true, List, ◌∷◌, ◌++◌, Some, nat_le}
 use Rattle.gates.specs.declared.entry.Entry.{Entry}
-use Rattle.gates.specs.Open.{opens, gates_at, open_at, gate_of, stays_open, open_for}
+use Rattle.gates.specs.Open.{opens, gates_at, open_at, stays_open, open_for}
 
 -- queue q is the open one just where its gate is open and no other is
 abbrev pub OneGateOpen : Type 0

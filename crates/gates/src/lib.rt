@@ -1,4 +1,6 @@
 // Gate lists: their entries, the text of a list, and which gate is open when.
+#![tactic(auto)]
+
 pub mod entry;
 pub mod opening;
 pub mod text;

@@ -1,5 +1,5 @@
 -- The packets that a list names are gathered in queue order.
-use Rattle.std.proofs.Common.{◌≡◌, ℕ, zero, suc, ◌+◌, ◌-◌, ◌*◌, ◌/◌, ◌<◌, ◌≤◌, Bool, true, false, cond, not, ◌&&◌, ◌||◌, eqb, leb, ◌⊎◌, List, [], ◌∷◌, ◌++◌, map, length, get_or, take, drop, sym, refl, ap, ◌∙◌, subst, inl, inr, ⊎_elim, mul-le-mul_right, div-mul-le_self, arith}
+use Rattle.std.proofs.Common.{◌≡◌, ℕ, ◌+◌, ◌-◌, ◌*◌, ◌/◌, ◌<◌, ◌≤◌, Bool, true, false, cond, not, ◌&&◌, ◌||◌, eqb, leb, List, [], ◌∷◌, ◌++◌, map, length, get_or, take, drop, sym, refl, ap, ◌∙◌, subst, inl, inr, ⊎_elim, mul-le-mul_right, div-mul-le_self, arith}
 use native.Mathlib.Nat.{eq_of_mul-eq-mul_right}
 use Rattle.std.specs.List.{AllByRecursion}
 use Rattle.std.proofs.ByRecursion.{All-weaker}
@@ -15,8 +15,8 @@ use Rattle.cycle.specs.Cycle.{packets_in, number_in_cycle}
 use Rattle.gates.specs.declared.entry.Entry.{Entry}
 use Rattle.table.specs.Order.{in_order, placed, placed_last}
 use Rattle.table.proofs.Places.{placed_last-is}
-use Rattle.sending.specs.Sheet.{Fits, OfSheet, cycle, flow, job_of, mandatory, packet, queue}
-use Rattle.sending.specs.Rules.{Rules, names, names_packet, optional_there, well_named, admitted}
+use Rattle.sending.specs.Sheet.{Fits, cycle, flow, job_of, mandatory, packet, queue}
+use Rattle.sending.specs.Rules.{Rules, names, names_packet, optional_there, well_named}
 use Rattle.sending.specs.InTime.{InFirstCycle}
 use Rattle.sending.proofs.Packets.{some_period}
 use Rattle.coming.specs.declared.coming.Next.{Next}
@@ -25,7 +25,7 @@ use Rattle.coming.specs.Rising.{In, Rises}
 use Rattle.coming.specs.Behind.{queue_asym, queue-behind}
 use Rattle.coming.proofs.Steps.{order_placed_last}
 use Rattle.coming.proofs.Rising.{all_placed, rises-placed, in_placed, in_placed-new}
-use Rattle.list_check.specs.Queued.{Of, Queued, QueuedNext, NamedJoins}
+use Rattle.list_check.specs.Queued.{Of, QueuedNext, NamedJoins}
 use Rattle.list_check.proofs.Starting.{number_there}
 
 -- what one more entry names

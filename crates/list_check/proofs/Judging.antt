@@ -1,5 +1,5 @@
 -- What the queues looked through say of the list.
-use Rattle.std.proofs.Common.{◌≡◌, ℕ, ◌+◌, ◌<◌, ◌≤◌, Bool, true, false, cond, eqb, ◌⊎◌, List, length, Some, None, Option, sym, refl, ap, ◌∙◌, subst, inl, inr, ⊎_elim, arith, MatchOption}
+use Rattle.std.proofs.Common.{◌≡◌, ℕ, ◌+◌, ◌<◌, true, false, eqb, List, length, Some, None, Option, sym, refl, ap, ◌∙◌, subst, ⊎_elim, arith, MatchOption}
 use Rattle.std.specs.Option.{option_map}
 use Rattle.std.proofs.lemmas.Bool.{both_ways, cond_both, cases_eq, eqb-false}
 use Rattle.traffic.specs.declared.flow.Flow.{Flow}
@@ -15,8 +15,8 @@ use Rattle.list_check.specs.declared.fault.CheckFault.{CheckFault}
 use Rattle.sending.proofs.Keeping.{rules_agree}
 use Rattle.list_check.specs.Faults.{fault_of}
 use Rattle.list_check.specs.Service.{due_before}
-use Rattle.list_check.specs.Lateness.{InTimeAt, Covered, KnownLate, Looked}
-use Rattle.list_check.specs.Verdict.{LeastLate, LateAt, HasFlows, Refused}
+use Rattle.list_check.specs.Lateness.{Covered, KnownLate, Looked}
+use Rattle.list_check.specs.Verdict.{LateAt, HasFlows, Refused}
 use Rattle.list_check.proofs.Naming.{mapped_none}
 
 -- there are eight queues

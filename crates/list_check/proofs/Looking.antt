@@ -1,6 +1,5 @@
 -- One packet after another of a queue of a sheet.
-use Rattle.std.proofs.Common.{◌≡◌, ℕ, zero, suc, ◌+◌, ◌<◌, ◌≤◌, Bool, true, false, cond, List, [], ◌∷◌, length, Some, None, Option, sym, refl, ap, ◌∙◌, subst, arith}
-use Rattle.std.specs.List.{AllByRecursion}
+use Rattle.std.proofs.Common.{◌≡◌, ℕ, ◌<◌, Bool, true, false, cond, List, ◌∷◌, length, Some, Option, refl, ap, subst, arith}
 use Rattle.traffic.specs.declared.packet.Packet.{Packet}
 use Rattle.traffic.specs.declared.packet.Job.{Job}
 use Rattle.traffic.specs.Packets.{Traffic}
@@ -8,11 +7,10 @@ use Rattle.gates.specs.declared.entry.Entry.{Entry}
 use Rattle.sheet.specs.declared.sheet.Sheet.{Sheet}
 use Rattle.sheet.specs.Contents.{traffic_of}
 use Rattle.sending.specs.Sheet.{job_of}
-use Rattle.sending.specs.Rules.{Rules, total}
+use Rattle.sending.specs.Rules.{Rules}
 use Rattle.sending.proofs.Fitting.{read_sheets_fit}
 use Rattle.coming.specs.declared.coming.Next.{Next}
-use Rattle.coming.specs.declared.coming.Queue.{Queue}
-use Rattle.coming.specs.Coming.{Comes, Due, Lined, Stepped, held}
+use Rattle.coming.specs.Coming.{Due, Lined, Stepped}
 use Rattle.coming.specs.Left.{left}
 use Rattle.coming.proofs.Dues.{due_bounds}
 use Rattle.coming.proofs.Steps.{stepped}

@@ -1,8 +1,7 @@
 -- A queue is looked through, packet by packet.
-use Rattle.std.proofs.Common.{◌≡◌, ℕ, zero, suc, ◌+◌, ◌-◌, ◌<◌, ◌≤◌, max, Bool, true, false, cond, not, ◌&&◌, ◌||◌, eqb, ltb, leb, ◌⊎◌, List, [], ◌∷◌, ◌++◌, Some, None, Option, sym, refl, ap, ◌∙◌, subst, inl, inr, ⊎_elim, arith}
+use Rattle.std.proofs.Common.{◌≡◌, ℕ, ◌+◌, ◌<◌, ◌≤◌, max, Bool, true, false, cond, ltb, ◌⊎◌, List, [], ◌∷◌, Some, None, Option, sym, refl, ap, ◌∙◌, subst, inl, inr, ⊎_elim, arith}
 use Rattle.std.specs.List.{AllByRecursion}
-use Rattle.std.proofs.ByRecursion.{All-weaker}
-use Rattle.std.proofs.lemmas.Bool.{cases_Bool, both_ways, leb-true, ltb-false, or_parts, false≢true}
+use Rattle.std.proofs.lemmas.Bool.{both_ways, leb-true, false≢true}
 use Rattle.std.proofs.lemmas.Bool.Decides.{nat_tests}
 use Rattle.traffic.specs.declared.packet.Packet.{Packet}
 use Rattle.traffic.specs.declared.packet.Job.{Job}
@@ -11,7 +10,7 @@ use Rattle.traffic.specs.Orders.{then_by, queue_before}
 use Rattle.traffic.proofs.Total.{queue_order}
 use Rattle.gates.specs.declared.entry.Entry.{Entry}
 use Rattle.sending.specs.Sheet.{OfSheet, deadline, job_of, queue, waits_before, wire}
-use Rattle.sending.specs.InTime.{InFirstCycle, StartsInTime, first_cycle}
+use Rattle.sending.specs.InTime.{InFirstCycle, first_cycle}
 use Rattle.sending.proofs.Packets.{fits_of}
 use Rattle.sending.proofs.Cycles.{by_ends}
 use Rattle.sending.proofs.Laws.{none_early}

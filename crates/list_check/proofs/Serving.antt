@@ -1,5 +1,5 @@
 -- A packet is sent at its first fit.
-use Rattle.std.proofs.Common.{◌≡◌, ℕ, zero, suc, ◌+◌, ◌-◌, ◌*◌, ◌/◌, ◌%◌, ◌<◌, ◌≤◌, max, Bool, true, false, cond, not, ◌&&◌, ◌||◌, eqb, ltb, leb, ◌⊎◌, List, [], ◌∷◌, ◌++◌, length, Some, None, filter, Option, sym, refl, ap, ◌∙◌, subst, inl, inr, ⊎_elim, mod-eq_of_lt, arith}
+use Rattle.std.proofs.Common.{◌≡◌, ℕ, zero, suc, ◌+◌, ◌-◌, ◌%◌, ◌<◌, ◌≤◌, max, Bool, true, false, cond, not, ◌&&◌, eqb, ltb, leb, ◌⊎◌, List, [], ◌∷◌, ◌++◌, length, Some, None, Option, sym, refl, ap, ◌∙◌, subst, inl, inr, ⊎_elim, mod-eq_of_lt, arith}
 use Rattle.std.specs.List.{AllByRecursion}
 use Rattle.std.proofs.lemmas.Bool.{and_parts, and_from, or_cases, eqb-true, cases_Bool, cases_eq, cases_lt, both_ways, le-leb, lt-ltb, ltb-true, false≢true}
 use Rattle.traffic.specs.declared.packet.Packet.{Packet}
@@ -8,9 +8,9 @@ use Rattle.traffic.proofs.Total.{queue_order}
 use Rattle.gates.specs.declared.entry.Entry.{Entry}
 use Rattle.gates.specs.Open.{opens, gates_at, gate_of, open_at, stays_open}
 use Rattle.gates.proofs.Stays.{zero_shut, stays_at}
-use Rattle.sending.specs.Sheet.{Fits, OfSheet, cycle, deadline, job_of, packet_at, queue, same, waits_before, wire}
-use Rattle.sending.specs.Rules.{total, given, at_most_one, well_gated}
-use Rattle.sending.specs.Port.{fits_at, gate_at, joining, arriving, starts}
+use Rattle.sending.specs.Sheet.{OfSheet, cycle, deadline, job_of, packet_at, queue, same, waits_before, wire}
+use Rattle.sending.specs.Rules.{given, at_most_one, well_gated}
+use Rattle.sending.specs.Port.{fits_at, gate_at, arriving}
 use Rattle.sending.specs.InTime.{InFirstCycle, StartsInTime, first_cycle}
 use Rattle.sending.proofs.Line.{is, is_self, Line, first, lsend, line, lstart, lstart-fits, is_some}
 use Rattle.sending.proofs.Gated.{open_inside, open_only}
@@ -20,9 +20,9 @@ use Rattle.sending.proofs.Packets.{same-is, same_self, times, all_times, fits_of
 use Rattle.sending.specs.Laws.{InOrder}
 use Rattle.sending.proofs.Cycles.{ends_by, by_ends}
 use Rattle.sending.proofs.Waiting.{Due, fits, arr, all_due, only, came_few}
-use Rattle.sending.proofs.Lined.{Lined, lined_then}
-use Rattle.sending.proofs.Laws.{none_early, no_overlap, only_admitted, first_in_first_out}
-use Rattle.list_check.specs.Serving.{sent_at, FirstFit, NoFit, SentBy, InFront, Cleared, Gated, SentAtFirstFit, Late, LateFit, LateWithoutFit, LateBehind}
+use Rattle.sending.proofs.Lined.{lined_then}
+use Rattle.sending.proofs.Laws.{none_early, no_overlap, first_in_first_out}
+use Rattle.list_check.specs.Serving.{sent_at, FirstFit, InFront, Cleared, Gated, SentAtFirstFit, LateFit, LateWithoutFit, LateBehind}
 
 -- an entry that opens some gate alone opens one
 gate_there : (g q : ℕ) → at_most_one g ≡ true → opens q g ≡ true → (r : ℕ) × (gate_of g ≡ Some r)

@@ -1,20 +1,17 @@
 -- The packets of a queue, before one is served.
-use Rattle.std.proofs.Common.{◌≡◌, ℕ, zero, suc, ◌+◌, ◌-◌, ◌*◌, ◌/◌, ◌%◌, ◌<◌, ◌≤◌, Bool, true, false, cond, not, ◌&&◌, ◌||◌, eqb, ltb, leb, ◌⊎◌, List, [], ◌∷◌, ◌++◌, Some, None, filter, Option, sym, refl, ap, ◌∙◌, subst, inl, inr, ⊎_elim, mod-eq_of_lt, mul-div_cancel, arith}
+use Rattle.std.proofs.Common.{◌≡◌, ℕ, ◌-◌, ◌*◌, ◌/◌, ◌%◌, ◌<◌, ◌≤◌, Bool, true, false, cond, List, Option, sym, refl, ap, ◌∙◌, inl, ⊎_elim, mod-eq_of_lt, mul-div_cancel, arith}
 use native.Mathlib.Nat.{mul-div_cancel', lt_of_mul-lt-mul_left}
-use Rattle.std.specs.List.{AllByRecursion}
-use Rattle.std.proofs.ByRecursion.{All-weaker, all_kept_by}
-use Rattle.std.proofs.lemmas.Bool.{cases_Bool, both_ways, or_left, or_right, or_cases, not_from_false, not-true, ne_eqb, eq-eqb, eqb-true, false≢true}
+use Rattle.std.proofs.ByRecursion.{All-weaker}
+use Rattle.std.proofs.lemmas.Bool.{cases_Bool, both_ways, or_left}
 use Rattle.traffic.specs.declared.flow.Flow.{Flow}
 use Rattle.traffic.specs.declared.packet.Packet.{Packet}
 use Rattle.traffic.specs.declared.packet.Job.{Job}
-use Rattle.traffic.specs.Packets.{Traffic, arrival, flow_at, job, queue_of}
-use Rattle.traffic.specs.Pattern.{mandatory_at, turn}
-use Rattle.traffic.specs.Orders.{queue_before}
-use Rattle.cycle.specs.Cycle.{number_in_cycle, packets_in}
+use Rattle.traffic.specs.Packets.{Traffic, arrival}
+use Rattle.traffic.specs.Pattern.{turn}
+use Rattle.cycle.specs.Cycle.{number_in_cycle}
 use Rattle.gates.specs.declared.entry.Entry.{Entry}
 use Rattle.sheet.specs.Ranges.{all_kept}
-use Rattle.sending.specs.Sheet.{Fits, FlowFits, OfSheet, cycle, flow, job_of, mandatory, packet, queue}
-use Rattle.sending.specs.Rules.{admitted, names}
+use Rattle.sending.specs.Sheet.{FlowFits, cycle, flow, job_of, mandatory, packet, queue}
 use Rattle.sending.specs.InTime.{InFirstCycle}
 use Rattle.sending.proofs.Packets.{some_period}
 use Rattle.coming.specs.Coming.{Due}

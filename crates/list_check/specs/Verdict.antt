@@ -5,7 +5,7 @@ use Rattle.traffic.specs.Packets.{Traffic}
 use Rattle.gates.specs.declared.entry.Entry.{Entry}
 use Rattle.sending.specs.Sheet.{job_of}
 use Rattle.sending.specs.Rules.{Rules, wrong_size, wrong_gates, wrong_name, wrong_total, first_broken}
-use Rattle.sending.specs.InTime.{InFirstCycle, Accepted}
+use Rattle.sending.specs.InTime.{InFirstCycle}
 use Rattle.list_check.specs.declared.fault.CheckFault.{CheckFault}
 use Rattle.list_check.specs.declared.fault.CheckFault.TheVariants.{EmptySheet, Size, Gates, Name, Total, Late as late-packet}
 use Rattle.list_check.specs.Serving.{Late}

@@ -1,4 +1,6 @@
 // The check of a gate list for a sheet.
+#![tactic(auto)]
+
 ghost use Rattle.list_check.specs.Serving.{SentAtFirstFit};
 
 pub mod acceptance;

@@ -1,4 +1,6 @@
 // Reads a flow sheet from standard input and prints its gate list, or its refusal.
+#![tactic(auto)]
+
 use planner::plan;
 use std::io;
 use std::io::{Read, Write};

@@ -1,4 +1,6 @@
 // Plans each sheet of a folder and compares the answer with the one that stands beside it.
+#![tactic(auto)]
+
 use planner::plan;
 use std::fs;
 

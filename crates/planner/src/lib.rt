@@ -1,4 +1,6 @@
 // What `plan` answers: a flow sheet's text goes in, the text of its gate list comes out, or that of a refusal.
+#![tactic(auto)]
+
 ghost use Rattle.std.specs.Prelude.{◌≡◌, ◌<◌, ◌≤◌, length, IfOk, Some};
 ghost use Rattle.refusal.specs.Told.{refusal_text};
 ghost use Rattle.sheet.specs.Contents.{traffic_of};

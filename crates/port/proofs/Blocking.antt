@@ -5,7 +5,7 @@ use Rattle.traffic.specs.Packets.{Traffic}
 use Rattle.gates.specs.declared.entry.Entry.{Entry}
 use Rattle.gates.specs.Open.{opens, gates_at, gate_of, open_at, stays_open}
 use Rattle.gates.proofs.Stays.{at_here, at_later, stays_from, stays_at}
-use Rattle.sending.specs.Sheet.{cycle, wire}
+use Rattle.sending.specs.Sheet.{cycle}
 use Rattle.sending.specs.Port.{idle}
 use Rattle.port.specs.declared.waiting.Waiting.{Waiting}
 use Rattle.port.specs.declared.station.Station.{Station}

@@ -6,7 +6,7 @@ use Rattle.traffic.specs.declared.packet.Job.{Job}
 use Rattle.traffic.specs.Packets.{Traffic}
 use Rattle.traffic.specs.Orders.{queue_before}
 use Rattle.table.specs.Order.{placed}
-use Rattle.sending.specs.Sheet.{job_of, queue, waits_before, placed as put_in}
+use Rattle.sending.specs.Sheet.{job_of, waits_before, placed as put_in}
 use Rattle.sending.specs.Calls.{of_sheet}
 use Rattle.port.specs.declared.waiting.Waiting.{Waiting}
 use Rattle.port.specs.declared.lanes.Lanes.{Lanes}

@@ -1,5 +1,5 @@
 -- An advance, instant by instant. Assumes nothing.
-use Rattle.std.proofs.Common.{◌≡◌, ℕ, suc, ◌-◌, List, Some, None, Option, sym, ap, ◌∙◌}
+use Rattle.std.proofs.Common.{◌≡◌, ℕ, suc, List, Some, None, Option, sym, ap, ◌∙◌}
 use Rattle.traffic.specs.declared.packet.Packet.{Packet}
 use Rattle.traffic.specs.Packets.{Traffic}
 use Rattle.sending.specs.Calls.{Advanced, Decided, Port, advance_by, decide}

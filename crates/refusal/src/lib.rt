@@ -1,4 +1,6 @@
 // A refusal as it is told: its number, the place and the number that go with it.
+#![tactic(auto)]
+
 ghost use Rattle.std.specs.Prelude.{◌≡◌, IfOk, Some, string_bytes};
 ghost use Rattle.refusal.specs.Told.{plain, at_place, refusal_text};
 

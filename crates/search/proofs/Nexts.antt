@@ -1,5 +1,5 @@
 -- What is known of the walk's next window. Assumes nothing.
-use Rattle.std.proofs.Common.{◌≡◌, ℕ, zero, suc, ◌-◌, ◌<◌, ◌≤◌, max, Bool, true, leb, List, [], ◌∷◌, take, Some, None, Option, sym, refl, ap, subst, ⊎_elim, arith, MatchOption}
+use Rattle.std.proofs.Common.{◌≡◌, ℕ, zero, suc, ◌<◌, ◌≤◌, max, Bool, true, leb, List, [], ◌∷◌, take, Some, None, Option, sym, refl, ap, subst, ⊎_elim, arith, MatchOption}
 use Rattle.std.specs.List.{AllByRecursion}
 use Rattle.std.proofs.ByRecursion.{All-append, All-take, All-map, all_kept_by, All-weaker}
 use Rattle.std.proofs.lemmas.Bool.{cond_both, cases_eq}

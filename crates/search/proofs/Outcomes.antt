@@ -1,5 +1,5 @@
 -- The outcome of a search. Assumes nothing.
-use Rattle.std.proofs.Common.{◌≡◌, ℕ, ◌+◌, ◌-◌, ◌≤◌, Bool, false, ◌||◌, ltb, List, ◌++◌, length, replicate, Result, sym, refl, ap, ◌∙◌, arith}
+use Rattle.std.proofs.Common.{◌≡◌, ℕ, ◌-◌, ◌≤◌, Bool, false, ◌||◌, ltb, List, ◌++◌, length, replicate, Result, sym, refl, ap, ◌∙◌, arith}
 use Rattle.std.proofs.lemmas.Bool.{ne_eqb, le-ltb, or_from}
 use Rattle.traffic.specs.declared.packet.Job.{Job}
 use Rattle.gates.specs.declared.entry.Entry.{Entry}

@@ -1,5 +1,4 @@
 -- What the faults of a search stand for. Assumes nothing.
-use Rattle.std.specs.Prelude.{ℕ}
 use Rattle.refusal.specs.declared.Refusal.{Refusal}
 use Rattle.refusal.specs.Told.{plain}
 use Rattle.search.specs.declared.fault.SearchFault.{SearchFault}

@@ -1,4 +1,6 @@
 // The search for a gate list: a walk over the mandatory packets, then a trial of each optional one.
+#![tactic(auto)]
+
 mod coming;
 mod drawing;
 pub mod fault;

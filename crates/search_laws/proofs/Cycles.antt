@@ -1,5 +1,5 @@
 -- The packets of a sheet's cycle have what the laws ask. Assumes nothing.
-use Rattle.std.proofs.Common.{◌≡◌, ℕ, zero, suc, ◌+◌, ◌-◌, ◌*◌, ◌/◌, ◌%◌, ◌<◌, ◌≤◌, Bool, true, false, cond, ◌⊎◌, List, [], ◌∷◌, length, get_or, sym, ap, ◌∙◌, subst, ⊎_elim, mul-le-mul_right, add-mul, div-add-mod', arith}
+use Rattle.std.proofs.Common.{◌≡◌, ℕ, zero, suc, ◌+◌, ◌-◌, ◌*◌, ◌/◌, ◌%◌, ◌<◌, ◌≤◌, Bool, true, false, cond, List, [], ◌∷◌, length, get_or, sym, ap, ◌∙◌, subst, ⊎_elim, mul-le-mul_right, add-mul, div-add-mod', arith}
 use Prim.Native.Nat.{◌∣◌}
 use native.Mathlib.Nat.{dvd_trans, dvd-mul_left, mod-eq-zero_of_dvd}
 use Rattle.std.specs.List.{AllByRecursion}
@@ -9,7 +9,7 @@ use Rattle.traffic.specs.declared.rate.Rate.{Rate}
 use Rattle.traffic.specs.declared.flow.Flow.{Flow}
 use Rattle.traffic.specs.declared.packet.Job.{Job}
 use Rattle.traffic.specs.Pattern.{turn, mandatory_at}
-use Rattle.traffic.specs.Packets.{no_flow, flow_at, arrival}
+use Rattle.traffic.specs.Packets.{no_flow, flow_at}
 use Rattle.traffic.specs.Orders.{queue_before}
 use Rattle.traffic.proofs.Total.{queue_order}
 use Rattle.cycle.specs.Cycle.{pattern_time, cycle_of}

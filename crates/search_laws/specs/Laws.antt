@@ -1,5 +1,5 @@
 -- What holds of every list that a search draws. Assumes nothing.
-use Rattle.std.specs.Prelude.{◌≡◌, ℕ, ◌+◌, ◌-◌, ◌<◌, ◌≤◌, max, Bool, true, false, not, ◌||◌, ◌⊎◌, List, [], ◌∷◌, ◌++◌, length, Some, Ok, Err, filter, ◌==◌}
+use Rattle.std.specs.Prelude.{◌≡◌, ℕ, ◌+◌, ◌<◌, ◌≤◌, max, Bool, true, false, not, ◌||◌, ◌⊎◌, List, [], ◌∷◌, ◌++◌, length, Some, Ok, Err, filter, ◌==◌}
 use Rattle.std.specs.List.{AllByRecursion}
 use Rattle.traffic.specs.declared.packet.Job.{Job}
 use Rattle.search.specs.declared.window.Window.{Window}

@@ -1,5 +1,5 @@
 -- Words for windows and the packets that a list names. Assumes nothing.
-use Rattle.std.specs.Prelude.{◌≡◌, ℕ, ◌≤◌, Bool, false, ◌&&◌, ◌||◌, ◌⊎◌, List, [], ◌∷◌, filter, ◌==◌, ◌≢◌, nat_eq}
+use Rattle.std.specs.Prelude.{ℕ, ◌≤◌, Bool, false, ◌&&◌, ◌||◌, ◌⊎◌, List, [], ◌∷◌, filter, ◌==◌, ◌≢◌, nat_eq}
 use Rattle.traffic.specs.declared.packet.Job.{Job}
 use Rattle.traffic.specs.Orders.{StrictOrder, JobsDiffer}
 use Rattle.gates.specs.declared.entry.Entry.{Entry}

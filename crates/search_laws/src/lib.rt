@@ -1,4 +1,6 @@
 // What holds of every list that a search draws.
+#![tactic(auto)]
+
 ghost use Rattle.std.specs.Prelude.{take, MatchResult};
 ghost use Rattle.search.specs.Memory.{Searched};
 ghost use Rattle.search_laws.specs.Sheets.{Lawful, Rightly};

@@ -1,5 +1,5 @@
 -- One call of the reader after another. Assumes nothing.
-use Rattle.std.proofs.Common.{◌≡◌, ℕ, ◌+◌, Bool, true, false, cond, Ok, Err, Result, sym, refl, ap, ◌∙◌, ⊎_elim, arith, MatchResult}
+use Rattle.std.proofs.Common.{◌≡◌, ℕ, ◌+◌, true, false, cond, Ok, Err, Result, sym, ap, ◌∙◌, ⊎_elim, arith, MatchResult}
 use Rattle.std.proofs.lemmas.Bool.{cases_Bool}
 use Rattle.sheet.specs.declared.faults.LineFault.{LineFault}
 use Rattle.sheet.specs.declared.faults.LineFault.TheVariants.{Form}
@@ -7,7 +7,7 @@ use Rattle.sheet.specs.declared.lines.Key.{Key}
 use Rattle.sheet.specs.declared.lines.Line.{Line}
 use Rattle.sheet.specs.declared.lines.Part.{Part}
 use Rattle.sheet.specs.Lines.{line_key, line_part, same_key, ranged}
-use Rattle.sheet.specs.Reading.{Cursor, Keyed, and_then, next_line, expected, number_line}
+use Rattle.sheet.specs.Reading.{Cursor, and_then, next_line, number_line}
 use Rattle.sheet.specs.Readers.{keyed_line, NumberRead}
 use Rattle.sheet.proofs.Numerals.{between_parts, ranged_parts}
 

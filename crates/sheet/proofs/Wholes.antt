@@ -1,7 +1,6 @@
 -- A whole sheet: its text, its lines and its cycle. Assumes nothing.
-use Rattle.std.proofs.Common.{◌≡◌, ℕ, ◌<◌, ◌≤◌, true, false, ◌&&◌, ltb, leb, ◌⊎◌, List, [], length, Some, None, Ok, Err, sym, refl, ap, ◌∙◌, inl, inr, ⊎_elim, arith}
+use Rattle.std.proofs.Common.{◌≡◌, ℕ, ◌<◌, ◌≤◌, true, false, ◌&&◌, ltb, leb, ◌⊎◌, List, [], length, Some, None, Ok, Err, refl, ◌∙◌, inl, inr, ⊎_elim, arith}
 use Rattle.std.proofs.lemmas.Bool.{le-ltb, le-leb, lt-leb, lt-ltb, leb-true, and_parts, and_from, cases_Bool, cases_lt, cond-true, cond-false}
-use Rattle.traffic.specs.declared.flow.Flow.{Flow}
 use Rattle.traffic.specs.Packets.{Traffic}
 use Rattle.cycle.specs.Multiple.{from_one_to}
 use Rattle.cycle.specs.Cycle.{cycle_of}

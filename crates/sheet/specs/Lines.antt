@@ -8,7 +8,7 @@ use Rattle.sheet.specs.declared.lines.Line.TheVariants as line
 use Rattle.sheet.specs.declared.lines.Part.{Part}
 use Rattle.sheet.specs.declared.faults.DigitFault.{DigitFault}
 use Rattle.sheet.specs.declared.faults.LineFault.{LineFault}
-use Rattle.sheet.specs.declared.faults.LineFault.TheVariants.{Form, Number, Range}
+use Rattle.sheet.specs.declared.faults.LineFault.TheVariants.{Number, Range}
 use Rattle.sheet.specs.Numbers.{read_number, on_line}
 use Rattle.sheet.specs.Ranges.{between}
 

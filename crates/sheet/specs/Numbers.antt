@@ -1,5 +1,5 @@
 -- Numbers in base ten. Assumes nothing.
-use Rattle.std.specs.Prelude.{ℕ, ◌+◌, ◌-◌, ◌*◌, Bool, cond, ◌&&◌, List, [], ◌∷◌, length, Ok, Err, Result, ◌==◌, nat_lt, slice_index}
+use Rattle.std.specs.Prelude.{ℕ, ◌+◌, ◌-◌, ◌*◌, cond, ◌&&◌, List, [], ◌∷◌, length, Ok, Err, Result, ◌==◌, nat_lt, slice_index}
 use Rattle.std.specs.Str.{all_ascii_digits}
 use Rattle.sheet.specs.declared.faults.Cause.{Cause}
 use Rattle.sheet.specs.declared.faults.Cause.TheVariants.{Empty, TooLong, LeadingZero, NoDigit}

@@ -1,5 +1,5 @@
 -- What the reader's calls do to its cursor. Assumes nothing.
-use Rattle.std.specs.Prelude.{◌≡◌, ℕ, ◌+◌, ◌≤◌, Ok, Err}
+use Rattle.std.specs.Prelude.{◌≡◌, ℕ, ◌+◌, ◌≤◌, Ok}
 use Rattle.sheet.specs.declared.lines.Key.{Key}
 use Rattle.sheet.specs.declared.lines.Line.{Line}
 use Rattle.sheet.specs.declared.reader.Reader.{Reader}

@@ -1,4 +1,6 @@
 // The flow sheet: its text, its flows and its cycle.
+#![tactic(auto)]
+
 mod cuts;
 mod digits;
 pub mod faults;

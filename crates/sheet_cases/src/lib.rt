@@ -1,4 +1,6 @@
 // Sheets that are read and sheets that are refused, by example.
+#![tactic(auto)]
+
 use refusal::Refusal;
 use sheet::refusals::sheet_refusal;
 use sheet::sheet::Sheet;

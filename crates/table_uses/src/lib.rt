@@ -1,4 +1,6 @@
 // Two record types with orders of their own, each in an ordered table.
+#![tactic(auto)]
+
 pub mod queue;
 #[cfg(test)]
 mod tests;

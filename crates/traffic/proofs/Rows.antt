@@ -1,5 +1,5 @@
 -- Of any k packets in a row at most m are optional. Assumes nothing.
-use Rattle.std.proofs.Common.{◌≡◌, ℕ, zero, suc, ◌+◌, ◌-◌, ◌%◌, ◌<◌, ◌≤◌, Bool, true, false, cond, ◌&&◌, ltb, leb, sym, refl, ap, ◌∙◌, ⊎_elim, mod-lt, arith}
+use Rattle.std.proofs.Common.{◌≡◌, ℕ, zero, suc, ◌+◌, ◌-◌, ◌%◌, ◌<◌, ◌≤◌, Bool, true, ◌&&◌, ltb, leb, sym, refl, ap, ◌∙◌, ⊎_elim, mod-lt, arith}
 use native.Mathlib.Nat.{mod-mod, suc-mod}
 use Rattle.std.proofs.lemmas.Bool.{and_parts, cases_eq, leb-true}
 use Rattle.traffic.specs.Pattern.{pattern, pattern_length, mandatory_number, optionals}

@@ -1,8 +1,6 @@
 -- Queue order and delivery order are total orders. Assumes nothing.
-use Rattle.std.proofs.Common.{◌≡◌, ℕ, Bool, true, false, not, eqb, ltb, ◌⊎◌, inl, inr, ⊎_elim, arith}
+use Rattle.std.proofs.Common.{◌≡◌, ℕ, true, false, not, ltb, ◌⊎◌, inl, inr, arith}
 use Rattle.std.proofs.lemmas.Bool.Decides.{nat_tests}
-use Rattle.traffic.specs.declared.packet.Packet.{Packet}
-use Rattle.traffic.specs.declared.packet.Job.{Job}
 use Rattle.traffic.specs.Orders.{StrictOrder, lightness, queue_before, delivered_before, JobsDiffer, PacketsDiffer}
 use Rattle.traffic.proofs.Keyed.{then_never, then_chained, then_chained_down, then_decides}
 

@@ -1,9 +1,7 @@
 -- The search's two answers.
-use Rattle.std.proofs.Common.{◌≡◌, ℕ, ◌-◌, List, length, take, sym, ap, ◌∙◌, arith}
-use Rattle.gates.specs.declared.entry.Entry.{Entry}
+use Rattle.std.proofs.Common.{◌≡◌, ℕ, ◌-◌, length, take, sym, ap, ◌∙◌, arith}
 use Rattle.gates.specs.Writes.{write_fault}
 use Rattle.refusal.specs.Told.{refusal_text}
-use Rattle.refusal.specs.declared.Refusal.{Refusal}
 use Rattle.search.specs.Serving.{deadline_monotonic}
 use Rattle.search.specs.Memory.{found}
 use Rattle.planner.specs.Answer.{written, search_answer}

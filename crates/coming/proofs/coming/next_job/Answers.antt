@@ -1,12 +1,12 @@
 -- The next packet of a flow, if it arrives in the cycle.
-use Rattle.std.proofs.Common.{◌≡◌, ℕ, ◌+◌, ◌-◌, ◌^◌, ◌<◌, ◌≤◌, Bool, false, ltb, length, get_or, None, Option, sym, refl, ap, ◌∙◌, subst, arith, MatchOption}
+use Rattle.std.proofs.Common.{◌≡◌, ◌+◌, ◌-◌, ◌^◌, ◌<◌, ◌≤◌, false, ltb, length, get_or, Option, sym, ap, ◌∙◌, subst, arith, MatchOption}
 use Rattle.std.proofs.lemmas.Bool.{ltb-false}
 use Rattle.traffic.specs.declared.flow.Flow.{Flow}
 use Rattle.traffic.specs.declared.packet.Job.{Job}
 use Rattle.traffic.specs.Packets.{no_flow, flow_at, arrival, job}
 use Rattle.sheet.specs.Contents.{traffic_of}
 use Rattle.coming.specs.Coming.{FirstFrom, NoneFrom, waits_in, NextDue, NoneDue}
-use Rattle.coming.proofs.Kept.{Ranged, ranged_at}
+use Rattle.coming.proofs.Kept.{ranged_at}
 use Rattle.coming.proofs.Dues.{flow_at_getD, some_of, none_of, none_due, late_due, next_due}
 use Rattle.coming.proofs.coming.next_job.Goals as goal
 

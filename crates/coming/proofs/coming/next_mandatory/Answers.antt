@@ -1,5 +1,5 @@
 -- The next mandatory packet by its place in the pattern.
-use Rattle.std.proofs.Common.{◌≡◌, ℕ, ◌+◌, ◌-◌, ◌%◌, ◌<◌, ◌≤◌, Bool, subst, arith}
+use Rattle.std.proofs.Common.{ℕ, ◌+◌, ◌-◌, ◌%◌, subst, arith}
 use Rattle.coming.specs.Coming.{FirstFrom}
 use Rattle.coming.proofs.Numbers.{falls, falls_again}
 use Rattle.coming.proofs.coming.next_mandatory.Goals as goal

@@ -1,5 +1,5 @@
 -- The next optional packet by its place in the pattern.
-use Rattle.std.proofs.Common.{◌≡◌, ℕ, ◌+◌, ◌-◌, ◌%◌, ◌<◌, ◌≤◌, Bool, not, subst, arith}
+use Rattle.std.proofs.Common.{ℕ, ◌+◌, ◌-◌, ◌%◌, not, subst, arith}
 use Rattle.coming.specs.Coming.{FirstFrom}
 use Rattle.coming.proofs.Numbers.{falls, fails_again}
 use Rattle.coming.proofs.coming.next_optional.Goals as goal

@@ -1,7 +1,7 @@
 -- The least common multiple by the greatest common divisor, and the limit.
 use Rattle.std.proofs.Common.{◌≡◌, ℕ, ◌*◌, ◌/◌, ◌<◌, ◌≤◌, sym, ap, ◌∙◌, arith}
 use native.Mathlib.Nat.{pos_of_dvd_of_pos}
-use Rattle.cycle.specs.Multiple.{gcd, lcm}
+use Rattle.cycle.specs.Multiple.{lcm}
 use Rattle.cycle.proofs.Multiples.{lcm_by_gcd, lcm-zero, lcm_multiple, lcm-least}
 use Rattle.cycle.proofs.Limits.{within_some, within_none}
 use Rattle.cycle.proofs.multiple.lcm_within.Goals as goal

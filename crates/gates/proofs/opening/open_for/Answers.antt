@@ -1,5 +1,5 @@
 -- One entry after another.
-use Rattle.std.proofs.Common.{◌≡◌, ℕ, ◌+◌, ◌-◌, ◌^◌, min, true, false, get_or, drop, sym, ap, ◌∙◌, arith}
+use Rattle.std.proofs.Common.{◌≡◌, ◌+◌, ◌-◌, true, false, get_or, drop, sym, ap, ◌∙◌, arith}
 use Rattle.std.proofs.lemmas.List.{drop_more, drop_all}
 use Rattle.gates.specs.Open.{opens, open_for}
 use Rattle.gates.proofs.Stays.{for_open_here, for_shut_here, for_later, stays_for, one_stretch}

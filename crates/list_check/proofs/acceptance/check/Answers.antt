@@ -1,5 +1,5 @@
 -- Each refusal, and the acceptance.
-use Rattle.std.proofs.Common.{◌≡◌, sym, refl, ◌∙◌}
+use Rattle.std.proofs.Common.{sym, refl, ◌∙◌}
 use Rattle.sheet.specs.Contents.{traffic_of}
 use Rattle.sending.specs.Rules.{Rules}
 use Rattle.list_check.specs.Verdict.{HasFlows}

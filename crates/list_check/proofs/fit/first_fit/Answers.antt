@@ -1,10 +1,9 @@
 -- One entry after another.
-use Rattle.std.proofs.Common.{◌≡◌, ◌+◌, ◌<◌, ◌≤◌, max, true, false, cond, leb, get_or, take, drop, Some, None, sym, refl, ap, ◌∙◌, arith}
+use Rattle.std.proofs.Common.{◌≡◌, ◌+◌, max, true, false, cond, leb, get_or, drop, Some, None, sym, refl, ap, ◌∙◌, arith}
 use Rattle.std.proofs.lemmas.List.{at_drop_more, at_drop_all}
 use Rattle.std.proofs.lemmas.Bool.{le-leb, lt-leb}
 use Rattle.gates.specs.Entries.{no_entry}
 use Rattle.gates.specs.Open.{opens}
-use Rattle.sending.specs.Rules.{total}
 use Rattle.list_check.specs.Fit.{fit_from}
 use Rattle.list_check.proofs.Fitting.{fit_some, fit_none, total_split, total_more}
 use Rattle.list_check.proofs.fit.first_fit.Goals as goal

@@ -1,5 +1,5 @@
 -- What is left of the search finds what the whole does.
-use Rattle.std.proofs.Common.{◌≡◌, ◌≤◌, max, length, take, drop}
+use Rattle.std.proofs.Common.{◌≡◌, ◌≤◌, max, take, drop}
 use Rattle.sending.specs.Rules.{total}
 use Rattle.list_check.specs.Fit.{fit_from}
 use Rattle.list_check.proofs.fit.first_fit.Given as goal

@@ -1,6 +1,5 @@
 -- One entry after another.
-use Rattle.std.proofs.Common.{◌≡◌, ◌+◌, ◌<◌, ◌≤◌, length, get_or, ◌∙◌, arith}
-use Rattle.gates.specs.Entries.{no_entry}
+use Rattle.std.proofs.Common.{◌<◌, length, arith}
 use Rattle.list_check.proofs.Fitting.{total_split, total_more}
 use Rattle.list_check.proofs.fit.moved_to.Goals as goal
 

@@ -1,5 +1,5 @@
 -- Packet by packet.
-use Rattle.std.proofs.Common.{◌≡◌, true, false, List, [], ◌∷◌, Option, sym, refl, ap, ◌∙◌, subst}
+use Rattle.std.proofs.Common.{◌≡◌, false, List, [], Option, sym, refl, ap, ◌∙◌, subst}
 use Rattle.traffic.specs.declared.packet.Job.{Job}
 use Rattle.sheet.specs.Contents.{traffic_of}
 use Rattle.coming.specs.Coming.{held}

@@ -1,5 +1,5 @@
 -- Packet by packet.
-use Rattle.std.proofs.Common.{◌≡◌, ◌+◌, true, false, List, [], ◌∷◌, map, get_or, drop, Option, sym, refl, ap, ◌∙◌, subst}
+use Rattle.std.proofs.Common.{◌≡◌, ◌+◌, false, List, [], ◌∷◌, map, get_or, drop, Option, sym, refl, subst}
 use Rattle.std.proofs.lemmas.List.{at_drop_more, at_drop_all}
 use Rattle.traffic.specs.declared.packet.Job.{Job}
 use Rattle.sheet.specs.Contents.{traffic_of}

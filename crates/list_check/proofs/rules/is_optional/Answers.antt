@@ -1,5 +1,5 @@
 -- The tests together.
-use Rattle.std.proofs.Common.{◌≡◌, ℕ, ◌-◌, ◌/◌, ◌≤◌, not, List, length, get_or, sym, ap, ◌∙◌, arith}
+use Rattle.std.proofs.Common.{◌≡◌, ℕ, ◌-◌, ◌≤◌, not, List, length, get_or, sym, ap, ◌∙◌, arith}
 use Rattle.traffic.specs.declared.flow.Flow.{Flow}
 use Rattle.traffic.specs.Packets.{no_flow}
 use Rattle.traffic.specs.Pattern.{mandatory_at}

@@ -1,5 +1,5 @@
 -- A number above all that were named is new.
-use Rattle.std.proofs.Common.{◌≡◌, take, sym, ◌∙◌}
+use Rattle.std.proofs.Common.{take, sym, ◌∙◌}
 use Rattle.std.proofs.lemmas.Bool.{lt-leb}
 use Rattle.list_check.proofs.Naming.{new_number}
 use Rattle.list_check.proofs.rules.is_repeated.Goals as goal

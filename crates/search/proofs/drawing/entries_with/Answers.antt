@@ -1,5 +1,5 @@
 -- The entries with one window more.
-use Rattle.std.proofs.Common.{◌≡◌, ◌-◌, take, drop, arith}
+use Rattle.std.proofs.Common.{◌≡◌, take, drop, arith}
 use Rattle.search.specs.Windows.{end, last_end, first_start}
 use Rattle.search.proofs.Entries.{gap, length_inserted, gap_within}
 use Rattle.search.proofs.drawing.entries_with.Goals as goal

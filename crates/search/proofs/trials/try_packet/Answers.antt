@@ -3,9 +3,9 @@ use Rattle.std.proofs.Common.{◌≡◌, ℕ, ◌+◌, ◌-◌, max, List, lengt
 use Rattle.std.specs.List.{AllByRecursion}
 use Rattle.std.proofs.lemmas.List.{length-take-le}
 use Rattle.search.specs.declared.window.Window.{Window}
-use Rattle.search.specs.Windows.{Fits, end}
+use Rattle.search.specs.Windows.{Fits}
 use Rattle.search.specs.Drawn.{drawn, inserted_at}
-use Rattle.search.specs.Search.{admitted_end, trial, inserted, room}
+use Rattle.search.specs.Search.{admitted_end, trial, inserted}
 use Rattle.search.specs.Tallies.{standing}
 use Rattle.search.specs.Trials.{Passed, HasRoom, NoRoom, Tried}
 use Rattle.search.proofs.Inserts.{fewer_windows}

@@ -1,5 +1,5 @@
 -- The three ways of the pattern, and that it leaves few optional packets in a row.
-use Rattle.std.proofs.Common.{◌≡◌, ℕ, ◌+◌, ◌-◌, ◌/◌, ◌<◌, ◌≤◌, max, false, eqb, sym, refl, ap, ◌∙◌, div-le_self, arith, rules}
+use Rattle.std.proofs.Common.{◌≡◌, ℕ, ◌+◌, ◌-◌, ◌/◌, max, false, eqb, sym, ap, ◌∙◌, div-le_self, arith, rules}
 use native.Mathlib.Nat.{div-zero, div-eq_of_lt, max_comm}
 use Rattle.std.proofs.lemmas.Bool.Decides.{nat_tests}
 use Rattle.traffic.specs.Pattern.{pattern}

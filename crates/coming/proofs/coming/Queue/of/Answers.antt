@@ -1,5 +1,5 @@
 -- Flow by flow, the first packet of each joins.
-use Rattle.std.proofs.Common.{◌≡◌, ℕ, suc, ◌+◌, ◌<◌, ◌≤◌, length, vec_items, vec_len, sym, ap, ◌∙◌, subst, add-one, arith, rules}
+use Rattle.std.proofs.Common.{◌≡◌, ℕ, suc, ◌+◌, length, vec_items, vec_len, sym, ap, subst, add-one, arith}
 use Rattle.sheet.specs.Contents.{traffic_of}
 use Rattle.coming.specs.Coming.{Joins, Built, held}
 use Rattle.coming.proofs.coming.Queue.of.Goals as goal

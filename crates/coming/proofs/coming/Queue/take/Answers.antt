@@ -1,11 +1,10 @@
 -- The first packet to come has a flow of the sheet and a number in the cycle.
-use Rattle.std.proofs.Common.{◌≡◌, ℕ, ◌+◌, ◌<◌, ◌≤◌, List, ◌∷◌, subst, arith}
+use Rattle.std.proofs.Common.{subst, arith}
 use Rattle.std.specs.List.{AllByRecursion}
 use Rattle.sheet.specs.Contents.{traffic_of}
-use Rattle.coming.specs.Coming.{Due, held}
+use Rattle.coming.specs.Coming.{Due}
 use Rattle.coming.specs.declared.coming.Next.{Next}
-use Rattle.coming.proofs.Dues.{DueBounds, due_bounds}
-use Rattle.coming.proofs.Steps.{stepped}
+use Rattle.coming.proofs.Dues.{due_bounds}
 use Rattle.coming.proofs.coming.Queue.take.Goals as goal
 
 pub overflow_add-packet : goal.overflow_add-packet

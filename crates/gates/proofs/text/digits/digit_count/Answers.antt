@@ -1,5 +1,5 @@
 -- The number of digits follows from the range.
-use Rattle.std.proofs.Common.{◌^◌, ◌<◌, arith}
+use Rattle.std.proofs.Common.{arith}
 use Rattle.std.proofs.lemmas.Fmt.{decimal_digit}
 use Rattle.gates.proofs.Counts.{count-is}
 use Rattle.gates.proofs.text.digits.digit_count.Goals as goal

@@ -1,5 +1,5 @@
 -- The digits, and the byte behind them.
-use Rattle.std.proofs.Common.{◌≡◌, ◌+◌, ◌-◌, ◌<◌, [], ◌∷◌, length, decimal, sym, ◌∙◌, arith}
+use Rattle.std.proofs.Common.{◌≡◌, ◌+◌, ◌-◌, ◌<◌, [], ◌∷◌, length, decimal, arith}
 use Rattle.gates.specs.Writes.{WrittenAt}
 use Rattle.gates.proofs.Writing.{written_byte, written_more}
 use Rattle.gates.proofs.text.digits.write_field.Goals as goal

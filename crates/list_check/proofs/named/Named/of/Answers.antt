@@ -1,5 +1,5 @@
 -- Entry by entry.
-use Rattle.std.proofs.Common.{◌≡◌, ℕ, ◌+◌, ◌<◌, ◌≤◌, true, leb, List, [], ◌∷◌, ◌++◌, length, get_or, take, drop, sym, refl, ap, ◌∙◌, subst, arith}
+use Rattle.std.proofs.Common.{◌≡◌, ◌+◌, ◌≤◌, leb, List, [], length, get_or, take, drop, sym, subst, arith}
 use Rattle.std.proofs.lemmas.List.{take_more, take_all}
 use Rattle.std.proofs.lemmas.Bool.{and_parts, leb-true}
 use Rattle.gates.specs.declared.entry.Entry.{Entry}
@@ -7,7 +7,6 @@ use Rattle.gates.specs.Entries.{no_entry}
 use Rattle.sheet.specs.Contents.{traffic_of}
 use Rattle.sending.proofs.Fitting.{read_sheets_fit}
 use Rattle.list_check.specs.Queued.{packets_held}
-use Rattle.coming.specs.declared.coming.Next.{Next}
 use Rattle.list_check.proofs.Gathering.{Gathered, gathered_none, gathered_joins, gathered_all, names_optional, entry_at}
 use Rattle.list_check.proofs.named.Named.of.Goals as goal
 

@@ -1,5 +1,5 @@
 -- Up to the end of the cycle.
-use Rattle.std.proofs.Common.{◌≡◌, ℕ, ◌-◌, ◌%◌, ◌<◌, ap, ◌∙◌, mod-lt, arith}
+use Rattle.std.proofs.Common.{◌≡◌, ℕ, ◌%◌, ◌<◌, ap, ◌∙◌, mod-lt, arith}
 use Rattle.std.specs.Option.{option_map}
 use Rattle.sheet.specs.Contents.{traffic_of}
 use Rattle.sending.specs.Sheet.{cycle}

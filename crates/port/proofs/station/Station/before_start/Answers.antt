@@ -1,5 +1,5 @@
 -- Why nothing starts.
-use Rattle.std.proofs.Common.{◌≡◌, ℕ, ◌-◌, ◌%◌, ◌<◌, false, sym, ap, ◌∙◌, subst, mod-lt, arith}
+use Rattle.std.proofs.Common.{◌≡◌, ℕ, ◌%◌, ◌<◌, false, sym, ap, ◌∙◌, subst, mod-lt, arith}
 use Rattle.sheet.specs.Contents.{traffic_of}
 use Rattle.gates.specs.Open.{open_at}
 use Rattle.sending.specs.Sheet.{cycle}

@@ -2,7 +2,7 @@
 use Rattle.std.proofs.Common.{subst, arith}
 use Rattle.std.specs.List.{AllByRecursion}
 use Rattle.sheet.specs.Contents.{traffic_of}
-use Rattle.search.specs.Coming.{Due, held}
+use Rattle.search.specs.Coming.{Due}
 use Rattle.search.specs.declared.coming.Next.{Next}
 use Rattle.search.proofs.Dues.{due_bounds}
 use Rattle.search.proofs.coming.Queue.take.Goals as goal

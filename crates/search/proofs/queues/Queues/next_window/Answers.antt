@@ -1,7 +1,7 @@
 -- The next window from the least arrival and the packet served first.
 use Rattle.std.proofs.Common.{◌≡◌, ℕ, max, Some, None, sym, ap, ◌∙◌}
 use Rattle.search.specs.Search.{firsts, first_of, arrived, window_at}
-use Rattle.search.specs.Queues.{nexts, least}
+use Rattle.search.specs.Queues.{nexts}
 use Rattle.search.proofs.Served.{next_none, next_at}
 use Rattle.search.proofs.queues.Queues.next_window.Goals as goal
 
