@@ -1,7 +1,7 @@
 // The cycle of the flows of a sheet, and a packet's number in it.
 ghost use Rattle.std.specs.Prelude.{◌≡◌, ◌<◌, map, if◌then◌else◌, Some, None, nat_eq};
 ghost use Rattle.std.specs.Int.{◌∣◌};
-ghost use Rattle.std.specs.List.{AllByRecursion as All};
+ghost use Rattle.std.specs.List.{AllByRecursion};
 ghost use Rattle.cycle.specs.Multiple.{lcm_of, from_one_to};
 ghost use Rattle.cycle.specs.Cycle.{pattern_time, cycle_of, packets_in, number_in_cycle, KeepsPlace};
 
@@ -24,8 +24,8 @@ pub fn pattern_time(flow: &Flow) -> u64
 pub fn cycle_within(flows: &[Flow], limit: u64) -> Option<u64>
     ensures value { result ≡ from_one_to limit (cycle_of flows.now) }
     ensures one_rule { cycle_of flows.now ≡ lcm_of (map pattern_time flows.now) }
-    ensures whole { All (λ f. pattern_time f ∣ cycle_of flows.now) flows.now }
-    ensures some { All (λ f. 0 < f.period) flows.now → 0 < cycle_of flows.now }
+    ensures whole { AllByRecursion (λ f. pattern_time f ∣ cycle_of flows.now) flows.now }
+    ensures some { AllByRecursion (λ f. 0 < f.period) flows.now → 0 < cycle_of flows.now }
 {
     let mut cycle = 1;
     for flow in flows {

@@ -9,8 +9,8 @@ use crate::counts::Counts;
 use crate::lanes::Lanes;
 use traffic::packet::Packet;
 
+mod outgoing;
 mod resting;
-mod sending;
 mod taking;
 
 // What waits, up to when the wire is taken, the packet taken last, and the counts.

@@ -1,6 +1,6 @@
 // The list drawn from windows.
 ghost use Rattle.std.specs.Prelude.{◌≡◌, ℕ, ◌+◌, ◌^◌, ◌<◌, ◌≤◌, [], ◌∷◌, length, take, drop, if◌then◌else◌, nat_lt};
-ghost use Rattle.std.specs.List.{AllByRecursion as All};
+ghost use Rattle.std.specs.List.{AllByRecursion};
 ghost use Rattle.search.specs.Windows.{Fits, end, last_end, first_start, latest};
 ghost use Rattle.search.specs.Drawn.{closed, entry, drawn, inserted_at, Wrote};
 
@@ -9,7 +9,7 @@ use gates::entry::Entry;
 
 // The end of the window in front of a place, or 0.
 fn end_before(windows: &[Window], place: usize) -> u64
-    requires fit { All Fits windows.now }
+    requires fit { AllByRecursion Fits windows.now }
     requires within { place ≤ length windows.now }
     ensures { result ≡ last_end 0 (take place windows.now) }
 {
@@ -46,7 +46,7 @@ pub fn entries_with(
     cycle: u64,
     entries: usize,
 ) -> usize
-    requires fit { All Fits windows.now × Fits w.now }
+    requires fit { AllByRecursion Fits windows.now × Fits w.now }
     requires within { place ≤ length windows.now }
     requires count { (entries ≡ length (drawn 0 windows.now cycle)) × (entries ≤ 1024) }
     ensures { result ≡ length (drawn 0 (inserted_at place w.now windows.now) cycle) }
@@ -113,7 +113,7 @@ fn close(list: &mut [Entry], n: usize, a: u64, b: u64) -> usize
 
 // Draws the list: one entry a window, one closed entry for each non-empty stretch before, between and after. Answers its length.
 pub fn draw(windows: &[Window], cycle: u64, list: &mut [Entry]) -> usize
-    requires fit { All Fits windows.now × (cycle ≤ latest) }
+    requires fit { AllByRecursion Fits windows.now × (cycle ≤ latest) }
     requires room { length (drawn 0 windows.now cycle) ≤ length list.old }
     ensures { Wrote (drawn 0 windows.now cycle) 0 result list.old list.new }
 {

@@ -1,6 +1,6 @@
 // The optional packets: each is tried at its one start.
 ghost use Rattle.std.specs.Prelude.{◌≡◌, ℕ, ◌+◌, ◌<◌, ◌≤◌, max, length, MatchOption};
-ghost use Rattle.std.specs.List.{AllByRecursion as All};
+ghost use Rattle.std.specs.List.{AllByRecursion};
 ghost use Rattle.sheet.specs.Contents.{traffic_of};
 ghost use Rattle.search.specs.Windows.{Fits, latest};
 ghost use Rattle.search.specs.Queues.{AllCome};
@@ -34,7 +34,7 @@ struct Trials {
 
 // How many windows end by the instant `low`, where so many are known to.
 fn windows_passed(windows: &[Window], from: usize, low: u64) -> usize
-    requires fit { All Fits windows.now }
+    requires fit { AllByRecursion Fits windows.now }
     requires passed { Passed low from windows.now }
     ensures { Passed low result windows.now }
 {
@@ -47,7 +47,7 @@ fn windows_passed(windows: &[Window], from: usize, low: u64) -> usize
 
 // The least start from `low` on at which the packet overlaps no window, unless it would be late.
 fn room_for(windows: &[Window], from: usize, low: u64, job: &Job) -> Option<Room>
-    requires fit { All Fits windows.now × FitsJob job.now × (low ≤ latest) }
+    requires fit { AllByRecursion Fits windows.now × FitsJob job.now × (low ≤ latest) }
     requires passed { Passed low from windows.now }
     ensures { MatchOption result (NoRoom low from job.now windows.now) (HasRoom low from job.now windows.now) }
 {
