@@ -17,7 +17,7 @@ at_here x xs v h = let on : ltb v x.interval ≡ true = lt-ltb _ _ h in rw on
 pub at_later : (x : Entry) (xs : List Entry) (v u : ℕ) → v ≡ x.interval + u → gates_at (x ∷ xs) v ≡ gates_at xs u
 at_later x xs v u e = let off : ltb v x.interval ≡ false = le-ltb _ _ (omega arith) in let d : v - x.interval ≡ u = omega arith in rw (off, d)
 
--- the three ways of `open-for`
+-- the three ways of `open_for`
 pub for_open_here : (x : Entry) (xs : List Entry) (q o : ℕ) → o < x.interval → opens q x.gates ≡ true → open_for (x ∷ xs) q o ≡ (x.interval - o) + open_for xs q 0
 for_open_here x xs q o h on = let l : ltb o x.interval ≡ true = lt-ltb _ _ h in rw (l, on)
 
