@@ -7,7 +7,7 @@ use Rattle.sending.specs.Sheet.{job_of}
 use Rattle.sending.specs.Rules.{Rules, wrong_size, wrong_gates, wrong_name, wrong_total, first_broken}
 use Rattle.sending.specs.InTime.{InFirstCycle}
 use Rattle.list_check.specs.declared.fault.CheckFault.{CheckFault}
-use Rattle.list_check.specs.declared.fault.CheckFault.TheVariants.{EmptySheet, Size, Gates, Name, Total, Late as late-packet}
+use Rattle.list_check.specs.declared.fault.CheckFault.TheVariants.{EmptySheet, Size, Gates, Name, Total, Late as late_packet}
 use Rattle.list_check.specs.Serving.{Late}
 use Rattle.list_check.specs.Service.{due_before}
 use Rattle.list_check.specs.Lateness.{InTimeAt}
@@ -33,4 +33,4 @@ Refused s es Size = HasFlows s × (first_broken s es ≡ Some wrong_size)
 Refused s es (Gates place) = HasFlows s × (first_broken s es ≡ Some (wrong_gates place))
 Refused s es (Name place) = HasFlows s × (first_broken s es ≡ Some (wrong_name place))
 Refused s es Total = HasFlows s × (first_broken s es ≡ Some wrong_total)
-Refused s es (late-packet i n) = HasFlows s × (Rules s es × LateAt s es i n)
+Refused s es (late_packet i n) = HasFlows s × (Rules s es × LateAt s es i n)

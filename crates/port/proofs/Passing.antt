@@ -60,7 +60,7 @@ module _ (s : Traffic) (es : List Entry) (pending : Option (List Entry)) (x : St
   moves (suc k) t xs h =
       let end : t + suc k ≡ suc (t + k) = omega arith in
       quiet_instants s (suc k) (p t) xs (record {
-        same-list = λ i l. (h (t + i) (omega arith) (omega arith)).1.0;
+        same_list = λ i l. (h (t + i) (omega arith) (omega arith)).1.0;
         none_taken = ap (λ (n : ℕ). none_before n xs) end ∙ none_come (t + k) xs (h (t + k) (omega arith) (omega arith)).0;
         none_starts = λ i l. ap (λ (y : Turn Packet). y.start) (h (t + i) (omega arith) (omega arith)).1.1;
       })

@@ -129,7 +129,7 @@ given_of s =
     record {
       some_time = subst (λ (n : ℕ). 0 < n) (sym s.round) some;
       mandatory_waits = waits_mandatory s;
-      mandatory-rises = rises-mandatory s;
+      mandatory_rises = rises-mandatory s;
       optional_waits = waits s 0;
       optional_rises = rising 0 _ (packets_rise t 0 s.cycle) (late _);
       optional_distinct = distinct s 0 _ (packets_due t 0 s.cycle) (packets_rise t 0 s.cycle);

@@ -49,7 +49,7 @@ walk_lawful before c vs laws given e = from_walk before c vs (λ l. WalkLaw befo
     let same : ws ≡ t.0 = t.1 in
     let P : List Window → Type 0 = λ l. Law before 0 c.long c.mandatory l in
     let law : Law before 0 c.long c.mandatory ws =
-    subst P (sym same) (turns_law before given.home c.long 0 c.mandatory t.0 (all_home c given) given.mandatory-rises (subst (λ l. Apart 0 l c.long) same g.apart) t.2) in
+    subst P (sym same) (turns_law before given.home c.long 0 c.mandatory t.0 (all_home c given) given.mandatory_rises (subst (λ l. Apart 0 l c.long) same g.apart) t.2) in
     let on : AllByRecursion (λ w. not (eqb w.packet.queue 0) ≡ true) ws = All-weaker Right (λ w. not (eqb w.packet.queue 0) ≡ true) (λ w r. let k = r.2 in not_from_false _ (ne_eqb _ _ (omega arith))) ws law.fine in
     let back : walk_windows (admitted c.long c.optional ws) ≡ ws =
     kept_admit (λ p. not (eqb p.queue 0)) c.long c.optional ws (optional_off c given) ∙ kept_all (λ w. not (eqb w.packet.queue 0)) ws on in

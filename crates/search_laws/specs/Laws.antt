@@ -33,7 +33,7 @@ Distinct (p ∷ ps) = AllByRecursion (Unlike p) ps × Distinct ps
 pub record Given (c : Cycle) : Type 0 where
   pub some_time : 0 < c.long
   pub mandatory_waits : (q : ℕ) → AllByRecursion (WaitsIn c.long q) (c.mandatory q)
-  pub mandatory-rises : (q : ℕ) → Rising 0 (c.mandatory q)
+  pub mandatory_rises : (q : ℕ) → Rising 0 (c.mandatory q)
   pub optional_waits : AllByRecursion (WaitsIn c.long 0) c.optional
   pub optional_rises : Rising 0 c.optional
   pub optional_distinct : Distinct c.optional

@@ -11,7 +11,7 @@ use Rattle.sending.specs.Sheet.{Fits, OfSheet, cycle, flow, mandatory, placed, q
 use Rattle.sending.specs.Rules.{admitted}
 use Rattle.sending.specs.Port.{State, Turn, idle, send, serve}
 use Rattle.sending.specs.Calls.{Counts, Taken, enter, now_in_force, of_sheet, one_foreign, one_unadmitted, take_in, taken, takes, tallied, turn, welcome, with_start, one_start}
-use Rattle.sending.specs.Runs.{Call, Ran, advance, call, calls, counts, made, over, started, take-over}
+use Rattle.sending.specs.Runs.{Call, Ran, advance, call, calls, counts, made, over, started, take_over}
 use Rattle.sending.specs.Promise.{Accounted, PacketsAccounted, waiting_below}
 use Rattle.sending.proofs.Packets.{fits_of}
 use Rattle.sending.proofs.Source.{ours_from}
@@ -197,7 +197,7 @@ module _ (s : Traffic) (fs : Fits s) (source : List Packet) where
   call_accounted : (accepts : List Entry → Bool) (c : Call) (r : Ran) → Accounted source r → Accounted source (call s accepts c r)
   call_accounted accepts (advance u) r k = accounted_cond _ _ r (subst (Accounted source) (sym (advance_steps s (u - r.port.clock) r.port r.left r.answered r.overs)) (steps_accounted (u - r.port.clock) r k)) k
   call_accounted accepts counts r k = k
-  call_accounted accepts (take-over es) r k = accounted_cond (accepts es) (over es r) r (record { foreign = k.foreign; unadmitted = k.unadmitted; foreign_counted = k.foreign_counted; unadmitted_counted = k.unadmitted_counted; all = k.all }) k
+  call_accounted accepts (take_over es) r k = accounted_cond (accepts es) (over es r) r (record { foreign = k.foreign; unadmitted = k.unadmitted; foreign_counted = k.foreign_counted; unadmitted_counted = k.unadmitted_counted; all = k.all }) k
 
   calls_accounted : (accepts : List Entry → Bool) (cs : List Call) (r : Ran) → Accounted source r → Accounted source (calls s accepts cs r)
   calls_accounted accepts [] r k = k

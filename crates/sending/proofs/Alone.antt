@@ -70,22 +70,22 @@ module _ (s : Traffic) (in_force : ℕ → List Entry) (pos : 0 < cycle s) (whol
   pub starts_from : (q t : ℕ) (p : Packet) → gate_at s in_force t ≡ Some q → lstart (wire s) (queue_fits q) (queue_comes q) t ≡ Some p → starts s in_force up t ≡ Some p
   starts_from q t p g e = begins-alone (wire s) (gate_at s in_force) (fits_at s in_force) (joining s in_force up) (held s in_force pos whole) q t g ∙ e
 
-pub one_way : (s : Traffic) → 0 < cycle s → (in_force in-force' : ℕ → List Entry) → ((n : ℕ) → total (in_force n) ≡ cycle s) → ((n : ℕ) → total (in-force' n) ≡ cycle s) →
-    (up up' : Packet → Bool) (clock : ℕ) → ((n : ℕ) → n * cycle s < clock → in_force n ≡ in-force' n) →
-    (t : ℕ) → t < clock → (p : Packet) → ((r : Packet) → OfSheet s r → queue s r ≡ queue s p → up r ≡ up' r) → starts s in_force up t ≡ Some p → starts s in-force' up' t ≡ Some p
-one_way s pos in_force in-force' whole whole' up up' clock lists t tc p turned e =
+pub one_way : (s : Traffic) → 0 < cycle s → (in_force in_force' : ℕ → List Entry) → ((n : ℕ) → total (in_force n) ≡ cycle s) → ((n : ℕ) → total (in_force' n) ≡ cycle s) →
+    (up up' : Packet → Bool) (clock : ℕ) → ((n : ℕ) → n * cycle s < clock → in_force n ≡ in_force' n) →
+    (t : ℕ) → t < clock → (p : Packet) → ((r : Packet) → OfSheet s r → queue s r ≡ queue s p → up r ≡ up' r) → starts s in_force up t ≡ Some p → starts s in_force' up' t ≡ Some p
+one_way s pos in_force in_force' whole whole' up up' clock lists t tc p turned e =
     let q = queue s p in
     let here = starts-queue s in_force pos whole up t p e in
-    let list : (u : ℕ) → u < suc t → in_force (u / cycle s) ≡ in-force' (u / cycle s) = λ u h. lists (u / cycle s) (let k = div-mul-le_self u (cycle s) in omega arith) in
-    let same : lstart (wire s) (queue_fits s in_force pos whole up q) (queue_comes s in_force pos whole up q) t ≡ lstart (wire s) (queue_fits s in-force' pos whole' up' q) (queue_comes s in-force' pos whole' up' q) t =
+    let list : (u : ℕ) → u < suc t → in_force (u / cycle s) ≡ in_force' (u / cycle s) = λ u h. lists (u / cycle s) (let k = div-mul-le_self u (cycle s) in omega arith) in
+    let same : lstart (wire s) (queue_fits s in_force pos whole up q) (queue_comes s in_force pos whole up q) t ≡ lstart (wire s) (queue_fits s in_force' pos whole' up' q) (queue_comes s in_force' pos whole' up' q) t =
     lstart-same (wire s) _ _ _ _ t
     (λ u h. ap {B = ℕ → Bool} (λ (es : List Entry) (e : ℕ). is q (open_at es (u % cycle s)) && stays_open es q (u % cycle s) e) (list u h))
-    (λ u h. ap (λ (es : List Entry). filter up (arriving s es q u (length s.flows))) (list u h) ∙ kept_same (Comes s (in-force' (u / cycle s)) q u) up up' (λ x c. turned x c.ours c.own) (arriving s (in-force' (u / cycle s)) q u (length s.flows)) (all_come s (in-force' (u / cycle s)) q u (length s.flows) (omega arith))) in
-    let opens : gate_at s in-force' t ≡ Some q = ap (λ (es : List Entry). open_at es (t % cycle s)) (sym (list t (omega arith))) ∙ here.0 in
-    starts_from s in-force' pos whole' up' q t p opens (sym same ∙ here.1)
+    (λ u h. ap (λ (es : List Entry). filter up (arriving s es q u (length s.flows))) (list u h) ∙ kept_same (Comes s (in_force' (u / cycle s)) q u) up up' (λ x c. turned x c.ours c.own) (arriving s (in_force' (u / cycle s)) q u (length s.flows)) (all_come s (in_force' (u / cycle s)) q u (length s.flows) (omega arith))) in
+    let opens : gate_at s in_force' t ≡ Some q = ap (λ (es : List Entry). open_at es (t % cycle s)) (sym (list t (omega arith))) ∙ here.0 in
+    starts_from s in_force' pos whole' up' q t p opens (sym same ∙ here.1)
 
 pub queue-alone : QueueAlone
-queue-alone s fits in_force in-force' whole whole' up up' q clock turned lists t tc p own = (
-  one_way s fits.some_time in_force in-force' whole whole' up up' clock lists t tc p (λ r o h. turned r o (h ∙ own)),
-  one_way s fits.some_time in-force' in_force whole' whole up' up clock (λ n h. sym (lists n h)) t tc p (λ r o h. sym (turned r o (h ∙ own))),
+queue-alone s fits in_force in_force' whole whole' up up' q clock turned lists t tc p own = (
+  one_way s fits.some_time in_force in_force' whole whole' up up' clock lists t tc p (λ r o h. turned r o (h ∙ own)),
+  one_way s fits.some_time in_force' in_force whole' whole up' up clock (λ n h. sym (lists n h)) t tc p (λ r o h. sym (turned r o (h ∙ own))),
 )

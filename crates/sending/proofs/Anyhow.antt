@@ -12,7 +12,7 @@ use Rattle.sending.specs.Rules.{admitted}
 use Rattle.sending.specs.Port.{State, Turn, fits_at, gate_at, holds, join, joining, list_at, arriving, run, send}
 use Rattle.sending.specs.InTime.{Accepted}
 use Rattle.sending.specs.Calls.{Counts, Taken, after, enter, of_sheet, take_in, taken, takes, tallied, turn, welcome}
-use Rattle.sending.specs.Runs.{Call, Ran, advance, call, calls, counts, in_force, made, over, started, starts_below, take-over}
+use Rattle.sending.specs.Runs.{Call, Ran, advance, call, calls, counts, in_force, made, over, started, starts_below, take_over}
 use Rattle.sending.specs.Promise.{AnySource}
 use Rattle.sending.proofs.Lists.{kept_none, kept_same}
 use Rattle.sending.proofs.Alone.{of_queue}
@@ -243,7 +243,7 @@ bound_cond s false x y f g = g
 call_bound : (s : Traffic) → Fits s → (accepts : List Entry → Bool) → ((es : List Entry) → accepts es ≡ true → Accepted s es) → (c : Call) (r : Ran) → Bound s r → Bound s (call s accepts c r)
 call_bound s fs accepts sound (advance u) r k = bound_cond s _ _ _ (λ _. subst (Bound s) (sym (advance_steps s (u - r.port.clock) r.port r.left r.answered r.overs)) (steps_bound s fs (u - r.port.clock) r k)) k
 call_bound s fs accepts sound counts r k = k
-call_bound s fs accepts sound (take-over es) r k = bound_cond s (accepts es) _ _ (λ a. record { joined = k.joined; state_is = k.state_is ∙ run-same s (holds k.joined) (in_force s r.overs) (in_force s (over es r).overs) r.port.clock (over-lists s fs es r); past = k.past; answers = k.answers ∙ below-same s (holds k.joined) (in_force s r.overs) (in_force s (over es r).overs) r.port.clock (over-lists s fs es r); lawful = lawful_over s fs es r (sound es a) k.lawful }) k
+call_bound s fs accepts sound (take_over es) r k = bound_cond s (accepts es) _ _ (λ a. record { joined = k.joined; state_is = k.state_is ∙ run-same s (holds k.joined) (in_force s r.overs) (in_force s (over es r).overs) r.port.clock (over-lists s fs es r); past = k.past; answers = k.answers ∙ below-same s (holds k.joined) (in_force s r.overs) (in_force s (over es r).overs) r.port.clock (over-lists s fs es r); lawful = lawful_over s fs es r (sound es a) k.lawful }) k
 
 calls_bound : (s : Traffic) → Fits s → (accepts : List Entry → Bool) → ((es : List Entry) → accepts es ≡ true → Accepted s es) → (cs : List Call) (r : Ran) → Bound s r → Bound s (calls s accepts cs r)
 calls_bound s fs accepts sound [] r k = k

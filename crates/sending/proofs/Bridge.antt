@@ -12,7 +12,7 @@ use Rattle.sending.specs.Sheet.{Fits, cycle, packet_at, wire}
 use Rattle.sending.specs.Port.{State, Turn, fits_at, gate_at, holds, join, joining, list_at, arriving, run, send, starts, ticks}
 use Rattle.sending.specs.InTime.{Accepted}
 use Rattle.sending.specs.Calls.{Decided, Port, Start, advance_by, decide, now_in_force, still_pending, switch, taken, turn}
-use Rattle.sending.specs.Runs.{Call, Over, Ran, Rises, Run, advance, advanced, call, calls, counts, in_force, made, outcome, over, started, starts_below, take-over}
+use Rattle.sending.specs.Runs.{Call, Over, Ran, Rises, Run, advance, advanced, call, calls, counts, in_force, made, outcome, over, started, starts_below, take_over}
 use Rattle.sending.specs.Promise.{AsThreeSteps}
 use Rattle.sending.proofs.Gated.{in_cycle}
 use Rattle.sending.proofs.Steps.{ticks_all}
@@ -227,7 +227,7 @@ module _ (s : Traffic) (fs : Fits s) (es : List Entry) (r : Ran) where
 call_tied : (s : Traffic) → Fits s → (accepts : List Entry → Bool) → ((es : List Entry) → accepts es ≡ true → Accepted s es) → (source : List Packet) (c : Call) (r : Ran) → Tied s source r → Tied s source (call s accepts c r)
 call_tied s fs accepts sound source (advance u) r k = tied_cond s source _ _ _ (λ _. subst (Tied s source) (sym (advance_steps s (u - r.port.clock) r.port r.left r.answered r.overs)) (steps_tied s fs source (u - r.port.clock) r k)) k
 call_tied s fs accepts sound source counts r k = k
-call_tied s fs accepts sound source (take-over es) r k = tied_cond s source (accepts es) _ _ (λ a. record { state_is = k.state_is ∙ run-same s (holds source) (in_force s r.overs) (in_force s (over es r).overs) r.port.clock (over-lists s fs es r); rising = k.rising; later = k.later; still = k.still; answers = k.answers ∙ below-same s (holds source) (in_force s r.overs) (in_force s (over es r).overs) r.port.clock (over-lists s fs es r); lawful = lawful_over s fs es r (sound es a) k.lawful }) k
+call_tied s fs accepts sound source (take_over es) r k = tied_cond s source (accepts es) _ _ (λ a. record { state_is = k.state_is ∙ run-same s (holds source) (in_force s r.overs) (in_force s (over es r).overs) r.port.clock (over-lists s fs es r); rising = k.rising; later = k.later; still = k.still; answers = k.answers ∙ below-same s (holds source) (in_force s r.overs) (in_force s (over es r).overs) r.port.clock (over-lists s fs es r); lawful = lawful_over s fs es r (sound es a) k.lawful }) k
 
 calls_tied : (s : Traffic) → Fits s → (accepts : List Entry → Bool) → ((es : List Entry) → accepts es ≡ true → Accepted s es) → (source : List Packet) (cs : List Call) (r : Ran) → Tied s source r → Tied s source (calls s accepts cs r)
 calls_tied s fs accepts sound source [] r k = k

@@ -66,13 +66,13 @@ quiet_instants s zero p source q = let z : p.clock + 0 ≡ p.clock = omega arith
 quiet_instants s (suc n) p source q =
     let z : p.clock + 0 ≡ p.clock = omega arith in
     let d = decide_quiet s p source
-    (λ e. q.same-list 0 (omega arith) (ap (λ (t : ℕ). t % cycle s) z ∙ e))
+    (λ e. q.same_list 0 (omega arith) (ap (λ (t : ℕ). t % cycle s) z ∙ e))
     (none_sooner (suc p.clock) (p.clock + suc n) source (omega arith) q.none_taken)
     (subst (λ (t : ℕ). (send (wire s) (λ r e. stays_open p.list r (t % cycle s) e) t (open_at p.list (t % cycle s)) p.state).start ≡ None) z (q.none_starts 0 (omega arith))) in
     let p' : Port = record { state = p.state; clock = suc p.clock; list = p.list; pending = p.pending; last = p.last; counts = p.counts } in
     let at : (i : ℕ) → p.clock + suc i ≡ suc p.clock + i = λ i. omega arith in
     let rest : Quiet s p' source n = record {
-      same-list = λ i l e. q.same-list (suc i) (omega arith) (ap (λ (t : ℕ). t % cycle s) (at i) ∙ e);
+      same_list = λ i l e. q.same_list (suc i) (omega arith) (ap (λ (t : ℕ). t % cycle s) (at i) ∙ e);
       none_taken = subst (λ (t : ℕ). none_before t source ≡ true) (at n) q.none_taken;
       none_starts = λ i l. subst (λ (t : ℕ). (send (wire s) (λ r e. stays_open p.list r (t % cycle s) e) t (open_at p.list (t % cycle s)) p.state).start ≡ None) (at i) (q.none_starts (suc i) (omega arith));
     } in

@@ -7,7 +7,7 @@ use Rattle.sending.specs.Sheet.{mandatory}
 use Rattle.sending.specs.Rules.{admitted}
 use Rattle.sending.specs.Port.{State}
 use Rattle.sending.specs.Calls.{Counts, Start, Taken, one_foreign, one_start, one_unadmitted, take_in, taken, takes, tallied, turn, welcome, with_start}
-use Rattle.sending.specs.Runs.{Call, Ran, advance, call, calls, counts, made, over, started, take-over}
+use Rattle.sending.specs.Runs.{Call, Ran, advance, call, calls, counts, made, over, started, take_over}
 use Rattle.sending.specs.Promise.{StartsCounted, how_many}
 use Rattle.sending.proofs.Bridge.{decided, steps, advance_steps}
 
@@ -81,7 +81,7 @@ right_cond s false x y f g = g
 call_right : (s : Traffic) (accepts : List Entry → Bool) (c : Call) (r : Ran) → Right s r → Right s (call s accepts c r)
 call_right s accepts (advance u) r k = right_cond s _ _ r (subst (Right s) (sym (advance_steps s (u - r.port.clock) r.port r.left r.answered r.overs)) (steps_right s (u - r.port.clock) r k)) k
 call_right s accepts counts r k = k
-call_right s accepts (take-over es) r k = right_cond s (accepts es) (over es r) r (record { mandatories = k.mandatories; optionals = k.optionals }) k
+call_right s accepts (take_over es) r k = right_cond s (accepts es) (over es r) r (record { mandatories = k.mandatories; optionals = k.optionals }) k
 
 calls_right : (s : Traffic) (accepts : List Entry → Bool) (cs : List Call) (r : Ran) → Right s r → Right s (calls s accepts cs r)
 calls_right s accepts [] r k = k

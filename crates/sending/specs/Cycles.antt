@@ -13,12 +13,12 @@ use Rattle.sending.specs.InTime.{StartsInTime, first_cycle, InFirstCycle, Accept
 abbrev pub QueueAlone : Type 0
 QueueAlone =
     (s : Traffic) → Fits s →
-    (in_force in-force' : ℕ → List Entry) → ((n : ℕ) → total (in_force n) ≡ cycle s) → ((n : ℕ) → total (in-force' n) ≡ cycle s) →
+    (in_force in_force' : ℕ → List Entry) → ((n : ℕ) → total (in_force n) ≡ cycle s) → ((n : ℕ) → total (in_force' n) ≡ cycle s) →
     (up up' : Packet → Bool) (q clock : ℕ) →
     ((p : Packet) → OfSheet s p → queue s p ≡ q → up p ≡ up' p) →
-    ((n : ℕ) → n * cycle s < clock → in_force n ≡ in-force' n) →
+    ((n : ℕ) → n * cycle s < clock → in_force n ≡ in_force' n) →
     (t : ℕ) → t < clock → (p : Packet) → queue s p ≡ q →
-    (starts s in_force up t ≡ Some p → starts s in-force' up' t ≡ Some p) × (starts s in-force' up' t ≡ Some p → starts s in_force up t ≡ Some p)
+    (starts s in_force up t ≡ Some p → starts s in_force' up' t ≡ Some p) × (starts s in_force' up' t ≡ Some p → starts s in_force up t ≡ Some p)
 
 -- each mandatory or admitted packet that turned up starts exactly once, in time
 abbrev pub InTimeOnce : Type 0

@@ -14,7 +14,7 @@ none_before t (x ∷ xs) = nat_le t x.arrival
 
 -- over the next n instants no pending list comes into force, the source has nothing to take, and nothing can start
 pub record Quiet (s : Traffic) (p : Port) (source : List Packet) (n : ℕ) : Type 0 where
-  pub same-list : (i : ℕ) → i < n → (p.clock + i) % cycle s ≡ 0 → p.pending ≡ None
+  pub same_list : (i : ℕ) → i < n → (p.clock + i) % cycle s ≡ 0 → p.pending ≡ None
   pub none_taken : none_before (p.clock + n) source ≡ true
   pub none_starts : (i : ℕ) → i < n →
       (send (wire s) (λ q e. stays_open p.list q ((p.clock + i) % cycle s) e) (p.clock + i) (open_at p.list ((p.clock + i) % cycle s)) p.state).start ≡ None

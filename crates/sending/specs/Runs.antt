@@ -38,7 +38,7 @@ made es source = record { port = new_port es; left = source; answered = []; over
 pub data Call : Type 0 where
   advance : ℕ → Call
   counts : Call
-  take-over : List Entry → Call
+  take_over : List Entry → Call
 
 -- the answer of an advance joins the others
 abbrev pub answer : Option Start → List Start
@@ -57,7 +57,7 @@ over es r = record { port = pend es r.port; left = r.left; answered = r.answered
 abbrev pub call : Traffic → (List Entry → Bool) → Call → Ran → Ran
 call s accepts (advance u) r = cond (may_advance r.port u) (advanced r (advance_by s (u - r.port.clock) r.port r.left)) r
 call s accepts counts r = r
-call s accepts (take-over es) r = cond (accepts es) (over es r) r
+call s accepts (take_over es) r = cond (accepts es) (over es r) r
 
 -- one call after another
 abbrev pub calls : Traffic → (List Entry → Bool) → List Call → Ran → Ran
