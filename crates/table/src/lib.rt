@@ -3,4 +3,5 @@
 
 pub mod full;
 pub mod order;
+pub mod owned;
 pub mod table;
