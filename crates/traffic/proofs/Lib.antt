@@ -1,3 +1,4 @@
 pub mod Keyed
 pub mod Total
 pub mod Rows
+pub mod Turns

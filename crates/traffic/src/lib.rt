@@ -6,3 +6,4 @@ pub mod orders;
 pub mod packet;
 pub mod pattern;
 pub mod rate;
+pub mod sort;

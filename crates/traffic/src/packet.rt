@@ -7,7 +7,7 @@ use crate::pattern::is_mandatory;
 use crate::rate::{Rate, wire_time};
 
 // A packet as an arrival source hands it over: its flow, its number there counted from 1, and when it arrives.
-#[derive(Clone, Copy, PartialEq, Eq, Debug)]
+#[derive(Clone, Copy, PartialEq, Eq, Debug, Default)]
 pub struct Packet {
     pub flow: u8,
     pub number: u64,
@@ -16,7 +16,7 @@ pub struct Packet {
 
 // A packet of the sheet with what the sheet says of it: the queue in which it waits (0 if it is optional),
 // the instant by which it must have been sent, its time on the wire, and the weight of its flow.
-#[derive(Clone, Copy, PartialEq, Eq, Debug)]
+#[derive(Clone, Copy, PartialEq, Eq, Debug, Default)]
 pub struct Job {
     pub flow: u8,
     pub number: u64,
