@@ -2,5 +2,6 @@
 #![tactic(auto)]
 
 pub mod entry;
+pub mod naming;
 pub mod opening;
 pub mod text;

@@ -16,7 +16,8 @@ use Rattle.gates.specs.declared.entry.Entry.{Entry}
 use Rattle.table.specs.Order.{in_order, placed, placed_last}
 use Rattle.table.proofs.Places.{placed_last-is}
 use Rattle.sending.specs.Sheet.{Fits, cycle, flow, job_of, mandatory, packet, queue}
-use Rattle.sending.specs.Rules.{Rules, names, names_packet, optional_there, well_named}
+use Rattle.sending.specs.Rules.{Rules, names_packet, optional_there, well_named}
+use Rattle.gates.specs.Entries.{names}
 use Rattle.sending.specs.InTime.{InFirstCycle}
 use Rattle.sending.proofs.Packets.{some_period}
 use Rattle.coming.specs.declared.coming.Next.{Next}

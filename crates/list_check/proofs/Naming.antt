@@ -9,7 +9,8 @@ use Rattle.traffic.specs.Pattern.{mandatory_at}
 use Rattle.cycle.specs.Cycle.{packets_in}
 use Rattle.gates.specs.declared.entry.Entry.{Entry}
 use Rattle.sending.specs.Sheet.{cycle, flow}
-use Rattle.sending.specs.Rules.{names, optional_there, Broken, or_else}
+use Rattle.sending.specs.Rules.{optional_there, Broken, or_else}
+use Rattle.gates.specs.Entries.{names}
 use Rattle.list_check.specs.declared.fault.CheckFault.{CheckFault}
 use Rattle.list_check.specs.Named.{Known}
 

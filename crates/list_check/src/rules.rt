@@ -4,7 +4,8 @@ ghost use Rattle.std.specs.Option.{option_map};
 ghost use Rattle.cycle.specs.Cycle.{packets_in};
 ghost use Rattle.gates.specs.Entries.{no_entry};
 ghost use Rattle.sheet.specs.Contents.{traffic_of};
-ghost use Rattle.sending.specs.Rules.{total, names, names_packet, well_gated, well_named, optional_there, entry_broken, entries_broken, first_broken};
+ghost use Rattle.sending.specs.Rules.{total, names_packet, well_gated, well_named, optional_there, entry_broken, entries_broken, first_broken};
+ghost use Rattle.gates.specs.Entries.{names};
 ghost use Rattle.list_check.specs.Faults.{fault_of};
 ghost use Rattle.list_check.specs.Named.{Known};
 

@@ -2,7 +2,8 @@
 ghost use Rattle.std.specs.Prelude.{◌≡◌, ◌≤◌, true, if◌then◌else◌, Some, None};
 ghost use Rattle.sheet.specs.Contents.{traffic_of};
 ghost use Rattle.sending.specs.Sheet.{job_of, mandatory};
-ghost use Rattle.sending.specs.Rules.{names, admitted};
+ghost use Rattle.sending.specs.Rules.{admitted};
+ghost use Rattle.gates.specs.Entries.{names};
 ghost use Rattle.sending.specs.Calls.{of_sheet, after};
 
 use cycle::cycle::number_in_cycle;

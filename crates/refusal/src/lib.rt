@@ -2,10 +2,73 @@
 #![tactic(auto)]
 
 ghost use Rattle.std.specs.Prelude.{◌≡◌, IfOk, Some, string_bytes};
+ghost use Rattle.refusal.specs.Reasons.{code_of};
 ghost use Rattle.refusal.specs.Told.{plain, at_place, refusal_text};
 
 use std::alloc::{AllocError, Global};
 use std::fmt;
+
+// Why something is refused: the 21 reasons in the order of their codes.
+#[derive(Clone, Copy, PartialEq, Eq, Debug)]
+pub enum Reason {
+    LongText = 1,
+    LineForm,
+    LineNumber,
+    LineRange,
+    WireTime,
+    LongCycle,
+    EmptySheet,
+    LittleMemory,
+    LatePacket,
+    LongList,
+    ListSize,
+    Gates,
+    Name,
+    Total,
+    NotInTime,
+    Cycles,
+    CaptureRecord,
+    Instant,
+    FullTable,
+    WrittenSize,
+    ShortMemory,
+}
+
+impl Reason {
+    // The code that is told, from 1 to 21.
+    pub fn code(self) -> u8
+        ensures { result ≡ code_of self }
+    {
+        self as u8
+    }
+
+    // The refusal for this reason at a place.
+    pub fn at(self, place: u32) -> Refusal
+        ensures { result ≡ at_place (code_of self) place }
+    {
+        Refusal::at(self.code(), place)
+    }
+
+    // The refusal for this reason of a packet: its flow is the place.
+    pub fn of_packet(self, flow: u8, number: u64) -> Refusal
+        ensures { result ≡ record { code = code_of self; place = flow; number = number } }
+    {
+        Refusal {
+            code: self.code(),
+            place: flow as u32,
+            number,
+        }
+    }
+}
+
+// The refusal for a reason that names no place and no number.
+impl From<Reason> for Refusal {
+    ghost from_gives = { λ reason r. r ≡ plain (code_of reason) };
+
+    fn from(reason: Reason) -> Refusal {
+        Refusal::plain(reason.code())
+    }
+}
 
 // Refusal `code`, from 1 to 21; place and number are 0 where it names none.
 #[derive(Clone, Copy, PartialEq, Eq, Debug)]

@@ -13,7 +13,8 @@ use Rattle.cycle.specs.Cycle.{number_in_cycle}
 use Rattle.cycle.proofs.Repeats.{same_place}
 use Rattle.gates.specs.declared.entry.Entry.{Entry}
 use Rattle.sending.specs.Sheet.{Fits, FlowFits, OfSheet, cycle, flow, job_of, wire, deadline, queue, number_at, packet_at, arrives, same, waits_before, placed}
-use Rattle.sending.specs.Rules.{admitted, names}
+use Rattle.sending.specs.Rules.{admitted}
+use Rattle.gates.specs.Entries.{names}
 use Rattle.sending.specs.Port.{has_packet, arriving, holds}
 use Rattle.sending.proofs.Counting.{count}
 use Rattle.sending.proofs.Lists.{all_cond, all_placed, map-placed}

@@ -6,7 +6,7 @@ use Rattle.gates.specs.declared.entry.Entry.{Entry}
 use Rattle.sending.specs.Sheet.{mandatory}
 use Rattle.sending.specs.Rules.{admitted}
 use Rattle.sending.specs.Port.{State}
-use Rattle.sending.specs.Calls.{Counts, Start, Taken, one_foreign, one_start, one_unadmitted, take_in, taken, takes, tallied, turn, welcome, with_start}
+use Rattle.sending.specs.Calls.{now_in_force, Counts, Start, Taken, one_foreign, one_start, one_unadmitted, take_in, taken, takes, tallied, turn, welcome, with_start}
 use Rattle.sending.specs.Runs.{Call, Ran, advance, call, calls, counts, made, over, started, take_over}
 use Rattle.sending.specs.Promise.{StartsCounted, how_many}
 use Rattle.sending.proofs.Bridge.{decided, steps, advance_steps}
@@ -62,7 +62,7 @@ start_more s t c out (Some p) m n =
 
 decided_right : (s : Traffic) (r : Ran) → Right s r → Right s (decided s r)
 decided_right s r k =
-    let same = takes_keep s _ _ r.left r.port.counts r.port.last r.port.state in
+    let same = takes_keep s (now_in_force s r.port) _ r.left r.port.counts r.port.last r.port.state in
     let both = start_more s r.port.clock (taken s r.port r.left).counts r.answered (turn s r.port r.left).start (same.mandatory ∙ k.mandatories) (same.optional ∙ k.optionals) in
     record { mandatories = both.0; optionals = both.1 }
 

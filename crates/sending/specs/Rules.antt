@@ -7,17 +7,13 @@ use Rattle.traffic.specs.Pattern.{mandatory_at}
 use Rattle.cycle.specs.Cycle.{packets_in, number_in_cycle}
 use Rattle.gates.specs.declared.entry.Entry.{Entry}
 use Rattle.gates.specs.Open.{opens, gate_of}
+use Rattle.gates.specs.Entries.{names}
 use Rattle.sending.specs.Sheet.{cycle, flow, mandatory}
 
 -- the time that a list takes
 abbrev pub total : List Entry → ℕ
 total [] = 0
 total (e ∷ es) = e.interval + total es
-
--- does the list name number n of flow i
-abbrev pub names : List Entry → (i n : ℕ) → Bool
-names [] i n = false
-names (e ∷ es) i n = (e.flow == i && e.number == n) || names es i n
 
 -- mandatory packets always are admitted, optional ones if the list names their number in the cycle
 abbrev pub admitted : Traffic → List Entry → Packet → Bool

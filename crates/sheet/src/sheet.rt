@@ -6,6 +6,7 @@ ghost use Rattle.cycle.specs.Cycle.{cycle_of};
 use traffic::flow::Flow;
 use traffic::rate::Rate;
 
+pub mod packets;
 pub mod parts;
 pub mod reads;
 

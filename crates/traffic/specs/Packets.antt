@@ -1,8 +1,9 @@
 -- The packets of a sheet, with what the sheet says of each. Assumes nothing.
-use Rattle.std.specs.Prelude.{ℕ, zero, suc, ◌+◌, ◌-◌, ◌*◌, Bool, cond, List, nat_le, slice_index_or}
+use Rattle.std.specs.Prelude.{ℕ, zero, suc, ◌+◌, ◌-◌, ◌*◌, Bool, cond, ◌&&◌, List, length, nat_le, slice_index_or}
 use Rattle.traffic.specs.declared.rate.Rate.{Rate}
 use Rattle.traffic.specs.declared.flow.Flow.{Flow}
 use Rattle.traffic.specs.declared.packet.Job.{Job}
+use Rattle.traffic.specs.declared.packet.Packet.{Packet}
 use Rattle.traffic.specs.Wire.{wire_time}
 use Rattle.traffic.specs.Pattern.{mandatory_at}
 
@@ -19,6 +20,10 @@ no_flow = record { queue = 0; octets = 0; period = 0; deadline = 0; miss = 0; am
 abbrev pub flow_at : List Flow → ℕ → Flow
 flow_at fs zero = no_flow
 flow_at fs (suc i) = slice_index_or fs i no_flow
+
+-- flow i is there
+abbrev pub listed : List Flow → ℕ → Bool
+listed fs i = nat_le 1 i && nat_le i (length fs)
 
 -- when packet j of a flow arrives
 abbrev pub arrival : Flow → ℕ → ℕ
@@ -39,6 +44,10 @@ job r i f j = record {
   wire = wire_time r f.octets;
   weight = f.weight;
 }
+
+-- the packet of which the sheet says this
+abbrev pub packet_of : Job → Packet
+packet_of x = record { flow = x.flow; number = x.number; arrival = x.arrival }
 
 -- sent from this instant on, the packet ends by its deadline
 abbrev pub in_time : Job → ℕ → Bool

@@ -1,6 +1,6 @@
 // Packets, and what the sheet says of them.
 ghost use Rattle.std.specs.Prelude.{◌≡◌, ◌+◌, ◌^◌, ◌<◌, if◌then◌else◌, Some, None, nat_lt};
-ghost use Rattle.traffic.specs.Packets.{job, arrival};
+ghost use Rattle.traffic.specs.Packets.{job, arrival, packet_of};
 
 use crate::flow::Flow;
 use crate::pattern::is_mandatory;
@@ -25,6 +25,19 @@ pub struct Job {
     pub deadline: u64,
     pub wire: u32,
     pub weight: u8,
+}
+
+// The packet of which the sheet says this.
+impl From<Job> for Packet {
+    ghost from_gives = { λ x p. p ≡ packet_of x };
+
+    fn from(job: Job) -> Packet {
+        Packet {
+            flow: job.flow,
+            number: job.number,
+            arrival: job.arrival,
+        }
+    }
 }
 
 // Packet `number` of flow `index`, counted from 1; none where its deadline passes 64 bits.

@@ -3,7 +3,7 @@ use Rattle.std.proofs.Common.{◌≡◌, ◌+◌, false, ◌&&◌, ◌||◌, eqb
 use Rattle.std.proofs.lemmas.List.{at_drop_more, at_drop_all}
 use Rattle.std.proofs.lemmas.Bool.{and_from, and_left, and_right, eq-eqb, ne_eqb, or_left}
 use Rattle.gates.specs.Entries.{no_entry}
-use Rattle.sending.specs.Rules.{names}
+use Rattle.gates.specs.Entries.{names}
 use Rattle.list_check.proofs.rules.is_named.Goals as goal
 use Rattle.list_check.proofs.rules.is_named.Goals.{else-entry-flow-via-then-entry-flow+else-entry-number, else-entry-flow-via-else-entry-flow}
 

@@ -1,6 +1,6 @@
 -- None of those in front names the packet.
 use Rattle.std.proofs.Common.{◌≡◌, drop}
-use Rattle.sending.specs.Rules.{names}
+use Rattle.gates.specs.Entries.{names}
 use Rattle.list_check.proofs.rules.is_named.Given as goal
 
 abbrev pub invariant-loop-entry : goal.invariant-loop-entry

@@ -1,6 +1,6 @@
 -- Those from here on name the packet just where the whole list does.
 use Rattle.std.proofs.Common.{◌≡◌, drop}
-use Rattle.sending.specs.Rules.{names}
+use Rattle.gates.specs.Entries.{names}
 use Rattle.port.proofs.membership.is_named.Given as goal
 
 abbrev pub invariant-loop-entry : goal.invariant-loop-entry
