@@ -1,16 +1,17 @@
 -- A flow's next packet. Assumes nothing.
-use Rattle.std.proofs.Common.{◌≡◌, ℕ, zero, suc, ◌+◌, ◌-◌, ◌*◌, ◌<◌, ◌≤◌, Bool, true, false, cond, List, length, get_or, Some, None, sym, refl, ap, subst, ⊎_elim, mul-le-mul_right, mul-le-mul_left, arith}
-use Rattle.std.proofs.lemmas.Bool.{cases_Bool, cases_lt, both_ways, eqb-true, cond_both}
+use Rattle.std.proofs.Common.{◌≡◌, ℕ, zero, suc, ◌+◌, ◌-◌, ◌*◌, ◌<◌, ◌≤◌, Bool, true, false, cond, leb, List, length, get_or, Some, None, sym, refl, ap, subst, ⊎_elim, mul-le-mul_right, mul-le-mul_left, arith}
+use Rattle.std.proofs.lemmas.Bool.{cases_Bool, cases_lt, both_ways, eqb-true, cond_both, and_from, le-leb}
 use Rattle.traffic.specs.declared.rate.Rate.{Rate}
 use Rattle.traffic.specs.declared.rate.Rate.TheVariants.{Mbit10, Mbit100, Mbit1000}
 use Rattle.traffic.specs.declared.flow.Flow.{Flow}
 use Rattle.traffic.specs.declared.packet.Job.{Job}
-use Rattle.traffic.specs.Packets.{Traffic, no_flow, flow_at, arrival, queue_of, job}
+use Rattle.traffic.specs.Packets.{Traffic, no_flow, flow_at, listed, arrival, queue_of, job}
 use Rattle.traffic.specs.Wire.{wire_time}
 use Rattle.traffic.specs.Pattern.{mandatory_at}
 use Rattle.sheet.specs.Ranges.{all_kept}
 use Rattle.coming.proofs.Kept.{Ranged, ranged_at}
-use Rattle.coming.specs.Coming.{FirstFrom, NoneFrom, waits_in, Due, NextDue, NoneDue}
+use Rattle.traffic.specs.Sorts.{FirstFrom, NoneFrom}
+use Rattle.coming.specs.Coming.{waits_in, Due, NextDue, NoneDue}
 
 pub flow_at_getD : (fs : List Flow) (i : ℕ) → 0 < i → flow_at fs i ≡ get_or fs (i - 1) no_flow
 flow_at_getD fs zero h = absurd (omega arith)
@@ -84,3 +85,12 @@ due_bounds s long q x kept d =
     let k : Ranged s.rate (flow_at s.flows i) = subst (Ranged s.rate) (sym (flow_at_getD s.flows i d.named)) (ranged_at s.rate s.flows (i - 1) kept within) in
     let a : x.arrival ≡ arrival (flow_at s.flows i) x.number = ap (λ (y : Job). y.arrival) d.is in
     subst (DueBounds long) (sym d.is) (job_bounds s.rate i (flow_at s.flows i) x.number long k (omega (arith, d.early)) d.counted)
+
+-- a flow of the sheet keeps its ranges
+pub kept_flow : (s : Traffic) (i : ℕ) → all_kept s.rate s.flows ≡ true → 0 < i → i ≤ length s.flows → Ranged s.rate (flow_at s.flows i)
+kept_flow s i kept some listed =
+    let within : i - 1 < length s.flows = omega arith in
+    subst (Ranged s.rate) (sym (flow_at_getD s.flows i some)) (ranged_at s.rate s.flows (i - 1) kept within)
+
+pub is_listed : (fs : List Flow) (i : ℕ) → 0 < i → i ≤ length fs → listed fs i ≡ true
+is_listed fs i some most = and_from (leb 1 i) (leb i (length fs)) (le-leb 1 i some) (le-leb i (length fs) most)

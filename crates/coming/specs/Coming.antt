@@ -1,32 +1,12 @@
 -- The packets of a queue that are still to come. Assumes nothing.
-use Rattle.std.specs.Prelude.{◌≡◌, ℕ, zero, suc, ◌+◌, ◌-◌, ◌<◌, ◌≤◌, Bool, true, false, not, ◌⊎◌, List, [], ◌∷◌, length, take, ◌==◌}
+use Rattle.std.specs.Prelude.{◌≡◌, ℕ, zero, suc, ◌+◌, ◌<◌, ◌≤◌, Bool, true, ◌⊎◌, List, [], ◌∷◌, length, ◌==◌}
 use Rattle.std.specs.List.{AllByRecursion}
 use Rattle.traffic.specs.declared.flow.Flow.{Flow}
 use Rattle.traffic.specs.declared.packet.Job.{Job}
-use Rattle.traffic.specs.Pattern.{mandatory_at}
+use Rattle.traffic.specs.Sorts.{FirstFrom}
 use Rattle.traffic.specs.Packets.{Traffic, flow_at, arrival, queue_of, job}
 use Rattle.traffic.specs.Orders.{queue_before}
-use Rattle.table.specs.Order.{in_order, placed_last}
-use Rattle.coming.specs.declared.coming.Next.{Next}
-use Rattle.coming.specs.declared.coming.Queue.{Queue}
-
--- queue order between the next packets of two flows
-abbrev pub next_before : Next → Next → Bool
-next_before x y = queue_before x.packet y.packet
-
--- n is the first number from j on that passes the test
-pub record FirstFrom (test : ℕ → Bool) (j n : ℕ) : Type 0 where
-  pub from : j ≤ n
-  pub passes : test n ≡ true
-  pub first : (i : ℕ) → j ≤ i → i < n → test i ≡ false
-
--- no number from j on passes the test
-abbrev pub NoneFrom : (ℕ → Bool) → ℕ → Type 0
-NoneFrom test j = (i : ℕ) → j ≤ i → test i ≡ false
-
--- packet j of the flow is optional
-abbrev pub optional_at : Flow → ℕ → Bool
-optional_at f j = not (mandatory_at f j)
+use Rattle.table.specs.Order.{in_order, placed}
 
 -- packet j of the flow waits in queue q
 abbrev pub waits_in : ℕ → Flow → ℕ → Bool
@@ -51,52 +31,32 @@ pub record NextDue (s : Traffic) (long q i j : ℕ) (x : Job) : Type 0 where
 abbrev pub NoneDue : Traffic → ℕ → ℕ → ℕ → ℕ → Type 0
 NoneDue s long q i j = (n : ℕ) → j ≤ n → waits_in q (flow_at s.flows i) n ≡ true → long ≤ arrival (flow_at s.flows i) n
 
--- the next packets that a queue holds
-abbrev pub held : Queue → List Next
-held c = take c.len c.next
-
-abbrev pub packet_of : Next → Job
-packet_of n = n.packet
-
-abbrev pub next_of : Job → Next
-next_of x = record { packet = x }
-
 -- the packets to come after the next one of flow i from number j on has joined, if there is one
-abbrev pub Joins : Traffic → (long q i j : ℕ) → List Next → List Next → Type 0
+abbrev pub Joins : Traffic → (long q i j : ℕ) → List Job → List Job → Type 0
 Joins s long q i j before after =
     (NoneDue s long q i j × (after ≡ before))
-    ⊎ ((y : Job) × (NextDue s long q i j y × (after ≡ placed_last next_before (next_of y) before)))
+    ⊎ ((y : Job) × (NextDue s long q i j y × (after ≡ placed queue_before y before)))
 
 -- the packets to come once the first one of each of the flows 1 to n has joined
-abbrev pub Built : Traffic → (long q n : ℕ) → List Next → Type 0
+abbrev pub Built : Traffic → (long q n : ℕ) → List Job → Type 0
 Built s long q zero ns = ns ≡ []
-Built s long q (suc i) ns = (ms : List Next) × (Built s long q i ms × Joins s long q (suc i) 1 ms ns)
+Built s long q (suc i) ns = (ms : List Job) × (Built s long q i ms × Joins s long q (suc i) 1 ms ns)
 
 -- x was the first of the packets to come, and the next one of its flow has joined the others
-abbrev pub Stepped : Traffic → (long q : ℕ) → Job → List Next → List Next → Type 0
-Stepped s long q x before after = (rest : List Next) × ((before ≡ next_of x ∷ rest) × Joins s long q x.flow (x.number + 1) rest after)
-
--- how long the cycle goes on from the arrivals of these
-abbrev pub work : ℕ → List Next → ℕ
-work long [] = 0
-work long (n ∷ ns) = (long - n.packet.arrival) + work long ns
+abbrev pub Stepped : Traffic → (long q : ℕ) → Job → List Job → List Job → Type 0
+Stepped s long q x before after = (rest : List Job) × ((before ≡ x ∷ rest) × Joins s long q x.flow (x.number + 1) rest after)
 
 -- two next packets of different flows
-abbrev pub OtherFlow : Next → Next → Type 0
-OtherFlow n m = m.packet.flow ≡ n.packet.flow → ⊥
+abbrev pub OtherFlow : Job → Job → Type 0
+OtherFlow n m = m.flow ≡ n.flow → ⊥
 
 -- one next packet a flow
-abbrev pub Once : List Next → Type 0
+abbrev pub Once : List Job → Type 0
 Once [] = Unit {0}
 Once (n ∷ ns) = AllByRecursion (OtherFlow n) ns × Once ns
 
 -- these are next packets in the queue, one a flow, in queue order
-pub record Lined (s : Traffic) (long q : ℕ) (ns : List Next) : Type 0 where
-  pub due : AllByRecursion (λ n. Due s long q n.packet) ns
-  pub ordered : in_order next_before ns ≡ true
+pub record Lined (s : Traffic) (long q : ℕ) (ns : List Job) : Type 0 where
+  pub due : AllByRecursion (λ n. Due s long q n) ns
+  pub ordered : in_order queue_before ns ≡ true
   pub once : Once ns
-
--- what a queue holds are such packets
-pub record Comes (s : Traffic) (long q : ℕ) (c : Queue) : Type 0 where
-  pub few : c.len ≤ 64
-  pub lined : Lined s long q (held c)

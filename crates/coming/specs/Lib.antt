@@ -3,4 +3,3 @@ pub mod Coming
 pub mod Packets
 pub mod Left
 pub mod Rising
-pub mod Behind

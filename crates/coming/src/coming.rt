@@ -1,184 +1,125 @@
 // The packets of one queue that are still to come in the cycle.
-ghost use Rattle.std.specs.Prelude.{◌≡◌, ℕ, ◌+◌, ◌^◌, ◌<◌, ◌≤◌, [], length, MatchOption};
-ghost use Rattle.std.specs.Option.{option_map};
+ghost use Rattle.std.specs.Prelude.{◌≡◌, ◌^◌, ◌<◌, ◌≤◌, length, MatchOption};
 ghost use Rattle.std.specs.List.{slice_get};
-ghost use Rattle.traffic.specs.Pattern.{mandatory_at};
+ghost use Rattle.traffic.specs.Sorts.{FirstFrom, NoneFrom};
+ghost use Rattle.traffic.specs.Packets.{listed};
 ghost use Rattle.sheet.specs.Contents.{traffic_of};
-ghost use Rattle.coming.specs.Coming.{next_before, FirstFrom, NoneFrom, optional_at, waits_in, NextDue, NoneDue, Joins, Built, Stepped, Comes, held, packet_of};
-ghost use Rattle.coming.specs.Behind.{queue_asym, queue-behind};
+ghost use Rattle.coming.specs.Coming.{waits_in, NextDue, NoneDue, Joins};
+ghost use Rattle.coming.specs.Packets.{packets_before};
 
 use sheet::sheet::Sheet;
-use table::order::Ordered;
-use table::table::{put, show, take_first};
+use std::marker::Model;
+use table::owned::Table;
 use traffic::flow::Flow;
-use traffic::orders::queue_before;
-use traffic::packet::{Job, job_of};
-use traffic::pattern::pattern;
+use traffic::packet::Job;
+use traffic::sort::Sort;
 
-// The next packet of a flow in a queue.
+// One queue of a sheet.
 #[derive(Clone, Copy)]
-pub struct Next {
-    pub packet: Job,
+struct Lane<'a> {
+    sheet: &'a Sheet,
+    queue: u8,
 }
 
-// These stand in queue order.
-impl Ordered for Next {
-    ghost before = { next_before };
-
-    ghost asym = { λ x y. queue_asym x.packet y.packet };
-
-    ghost behind = { λ x y z. queue-behind x.packet y.packet z.packet };
-
-    fn precedes(&self, other: &Next) -> bool {
-        queue_before(&self.packet, &other.packet)
-    }
-}
-
-// The flow's first mandatory packet from a number on.
-fn next_mandatory(flow: &Flow, from: u64) -> Option<u64>
-    requires { (0 < from) × (from < 2 ^ 63) }
-    ensures { MatchOption result (NoneFrom (mandatory_at flow.now) from) (FirstFrom (mandatory_at flow.now) from) }
-{
-    let (w, h) = pattern(flow.miss, flow.among);
-    let length = w as u64 + h as u64;
-    let place = (from - 1) % length;
-    if h == 0 {
-        return None;
-    }
-    if place < h as u64 {
-        Some(from)
-    } else {
-        Some(from + (length - place))
-    }
-}
-
-// The flow's first optional packet from a number on.
-fn next_optional(flow: &Flow, from: u64) -> Option<u64>
-    requires { (0 < from) × (from < 2 ^ 63) }
-    ensures { MatchOption result (NoneFrom (optional_at flow.now) from) (FirstFrom (optional_at flow.now) from) }
-{
-    let (w, h) = pattern(flow.miss, flow.among);
-    let length = w as u64 + h as u64;
-    let place = (from - 1) % length;
-    if w == 0 {
-        return None;
-    }
-    if place < h as u64 {
-        Some(from + (h as u64 - place))
-    } else {
-        Some(from)
-    }
-}
-
-// The flow's first packet from a number on that waits in the queue.
-fn next_number(flow: &Flow, from: u64, queue: u8) -> Option<u64>
-    requires { (0 < from) × (from < 2 ^ 63) × (0 < flow.now.queue) }
-    ensures { MatchOption result (NoneFrom (waits_in queue flow.now) from) (FirstFrom (waits_in queue flow.now) from) }
-{
-    if queue == 0 {
-        next_optional(flow, from)
-    } else if queue == flow.queue {
-        next_mandatory(flow, from)
-    } else {
-        None
-    }
-}
-
-// The next packet of flow `index` in the queue and in the cycle, from a number on.
-fn next_job(sheet: &Sheet, index: u8, from: u64, queue: u8) -> Option<Job>
-    requires flow { (0 < index) × (index ≤ length (traffic_of sheet.now).flows) }
-    requires number { (0 < from) × (from < 2 ^ 63) }
-    ensures { MatchOption result (NoneDue (traffic_of sheet.now) sheet.now.cycle queue index from) (NextDue (traffic_of sheet.now) sheet.now.cycle queue index from) }
-{
-    let flow = sheet.flows()[index as usize - 1];
-    let number = next_number(&flow, from, queue)?;
-    let job = job_of(sheet.rate(), index, &flow, number)?;
-    if job.arrival < sheet.cycle() {
-        Some(job)
-    } else {
-        None
-    }
-}
-
-// Stands where no packet is.
-const NO_NEXT: Next = Next {
-    packet: Job {
-        flow: 0,
-        number: 0,
-        queue: 0,
-        arrival: 0,
-        deadline: 0,
-        wire: 0,
-        weight: 0,
-    },
-};
-
-// The packets of one queue that are still to come: the next one of each flow, in queue order.
-#[derive(Clone, Copy)]
-pub struct Queue {
-    next: [Next; 64],
-    len: usize,
-}
-
-impl Queue {
-    // A queue to which nothing comes.
-    pub fn none() -> Queue
-        ensures { (result.len ≡ 0) × (held result ≡ []) }
+impl<'a> Lane<'a> {
+    // The number of the flow's first packet from a number on that waits in the queue.
+    fn next_number(&self, flow: &Flow, from: u64) -> Option<u64>
+        requires { (1 ≤ from) × (from ≤ 2 ^ 63) × (0 < flow.now.queue) }
+        ensures { MatchOption result (NoneFrom (waits_in self.now.queue flow.now) from) (FirstFrom (waits_in self.now.queue flow.now) from) }
     {
-        Queue {
-            next: [NO_NEXT; 64],
-            len: 0,
+        if self.queue == 0 {
+            flow.next_of_sort(Sort::Optional, from)
+        } else if self.queue == flow.queue {
+            flow.next_of_sort(Sort::Mandatory, from)
+        } else {
+            None
         }
     }
 
-    // A flow's next packet from a number on joins, if it has one.
-    fn join(&mut self, sheet: &Sheet, index: u8, from: u64, queue: u8)
-        requires flow { (0 < index) × (index ≤ length (traffic_of sheet.now).flows) }
-        requires number { (0 < from) × (from < 2 ^ 63) }
-        requires room { self.old.len < 64 }
-        ensures joins { Joins (traffic_of sheet.now) sheet.now.cycle queue index from (held self.old) (held self.new) }
-        ensures count { self.new.len ≤ self.old.len + 1 }
+    // The next packet of flow `index` in the queue and in the cycle, from a number on.
+    fn next_job(&self, index: u8, from: u64) -> Option<Job>
+        requires flow { (0 < index) × (index ≤ length (traffic_of self.now.sheet.now).flows) }
+        requires number { (1 ≤ from) × (from ≤ 2 ^ 63) }
+        ensures { MatchOption result (NoneDue (traffic_of self.now.sheet.now) self.now.sheet.now.cycle self.now.queue index from) (NextDue (traffic_of self.now.sheet.now) self.now.sheet.now.cycle self.now.queue index from) }
     {
-        if let Some(packet) = next_job(sheet, index, from, queue) {
-            let len = self.len;
-            if let Ok(more) = put(&mut self.next, len, Next { packet }) {
-                self.len = more;
-            }
+        let number = self.next_number(&self.sheet.flow(index)?, from)?;
+        let job = self.sheet.job(index, number)?;
+        if job.arrival < self.sheet.cycle() {
+            Some(job)
+        } else {
+            None
         }
     }
 
-    // All packets of the queue in the cycle.
-    pub fn of(sheet: &Sheet, queue: u8) -> Queue
-        ensures built { Built (traffic_of sheet.now) sheet.now.cycle queue (length (traffic_of sheet.now).flows) (held result) }
-        ensures few { result.len ≤ 64 }
+    // That packet joins the next ones, if there is one.
+    fn join(&self, next: &mut Table<Job, 64>, index: u8, from: u64)
+        requires flow { (0 < index) × (index ≤ length (traffic_of self.now.sheet.now).flows) }
+        requires number { (1 ≤ from) × (from ≤ 2 ^ 63) }
+        requires room { length next.old < 64 }
+        ensures { Joins (traffic_of self.now.sheet.now) self.now.sheet.now.cycle self.now.queue index from next.old next.new }
     {
-        let mut made = Queue::none();
-        let flows = sheet.flows();
-        for i in 0..flows.len() {
-            made.join(sheet, i as u8 + 1, 1, queue);
+        if let Some(job) = self.next_job(index, from) {
+            let _ = next.put(job);
         }
-        made
+    }
+}
+
+// The packets of a queue that are still to come, by the next one of each flow. Clauses see the list of all of them.
+#[derive(Drop)]
+pub struct Queue<'a> {
+    lane: Lane<'a>,
+    next: Table<Job, 64>,
+}
+
+impl<'a> Model for Queue<'a> {
+    ghost use Rattle.std.specs.Prelude.{List};
+    ghost use Rattle.traffic.specs.declared.packet.Job.{Job};
+
+    ghost Value = { List Job };
+
+    ghost use Rattle.sheet.specs.Contents.{traffic_of};
+    ghost use Rattle.coming.specs.Coming.{Lined};
+    ghost use Rattle.coming.specs.Left.{left};
+
+    ghost view = { λ a. left (traffic_of a.lane.sheet.now) a.lane.sheet.now.cycle a.lane.queue a.next };
+
+    ghost invariant = { λ a. Lined (traffic_of a.lane.sheet.now) a.lane.sheet.now.cycle a.lane.queue a.next };
+}
+
+impl<'a> Queue<'a> {
+    // All packets of the queue in the cycle, in queue order.
+    pub fn of(sheet: &'a Sheet, queue: u8) -> Queue<'a>
+        ensures { result ≡ packets_before (traffic_of sheet.now) queue sheet.now.cycle }
+    {
+        let lane = Lane { sheet, queue };
+        let mut next = Table::new();
+        for before in 0..sheet.flows().len() as u8 {
+            lane.join(&mut next, before + 1, 1);
+        }
+        Queue { lane, next }
     }
 
     // The first packet still to come.
     pub fn first(&self) -> Option<Job>
-        ensures { result ≡ option_map packet_of (slice_get (held self.now) 0) }
+        ensures { result ≡ slice_get self.now 0 }
     {
-        let next = show(&self.next, self.len, 0)?;
-        Some(next.packet)
+        self.next.first()
     }
+}
 
-    // Takes the first packet still to come; the next one of its flow joins.
-    pub fn take(&mut self, sheet: &Sheet, queue: u8) -> Option<Job>
-        requires { Comes (traffic_of sheet.now) sheet.now.cycle queue self.old }
-        ensures took { MatchOption result ((held self.old ≡ []) × (held self.new ≡ [])) (λ x. Stepped (traffic_of sheet.now) sheet.now.cycle queue x (held self.old) (held self.new)) }
-        ensures few { self.new.len ≤ 64 }
-    {
-        let len = self.len;
-        let (first, rest) = take_first(&mut self.next, len)?;
-        self.len = rest;
-        let packet = first.packet;
-        self.join(sheet, packet.flow, packet.number + 1, queue);
-        Some(packet)
+// Takes one packet after another; the next one of its flow joins.
+impl<'a> Iterator for Queue<'a> {
+    type Item = Job;
+
+    ghost use Rattle.std.specs.Iterator.{YieldsFirst, item_count};
+
+    ghost next_gives = { YieldsFirst (λ q. q) };
+
+    ghost remaining = { item_count (λ q. q) };
+
+    fn next(&mut self) -> Option<Job> {
+        let first = self.next.take_first()?;
+        self.lane.join(&mut self.next, first.flow, first.number + 1);
+        Some(first)
     }
 }
