@@ -103,7 +103,7 @@ impl<'a> Queue<'a> {
     pub fn first(&self) -> Option<Job>
         ensures { result ≡ slice_get self.now 0 }
     {
-        self.next.first()
+        self.next.show(0)
     }
 }
 

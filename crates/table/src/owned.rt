@@ -62,6 +62,13 @@ impl<T: Ordered + Copy, const N: usize> Table<T, N> {
         show(&self.memory, self.len, 0)
     }
 
+    // The record at a place, counted from 0, if there is one.
+    pub fn show(&self, at: usize) -> Option<T>
+        ensures { result ≡ slice_get self.now at }
+    {
+        show(&self.memory, self.len, at)
+    }
+
     // Puts a record behind its equals; refused, with nothing changed, where every place is taken.
     pub fn put(&mut self, x: T) -> Result<(), Full>
         ensures cases { MatchResult result (λ _. (length self.old < N) × (self.new ≡ placed T.before x self.old)) (λ _. (N ≤ length self.old) × (self.new ≡ self.old)) }

@@ -7,4 +7,4 @@ use Rattle.coming.proofs.coming.Queue.first.Goals as goal
 pub returns : goal.returns
 returns c =
     let s = c.self.inside.lane.sheet.now in
-    rw (← c.self.view_is) (c.first.ensures ∙ sym (same_first _ _ (left-first (traffic_of s) s.cycle c.self.inside.lane.queue s.kept c.self.inside.next c.self.invariant)))
+    rw (← c.self.view_is) (c.show.ensures ∙ sym (same_first _ _ (left-first (traffic_of s) s.cycle c.self.inside.lane.queue s.kept c.self.inside.next c.self.invariant)))
