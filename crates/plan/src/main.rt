@@ -2,40 +2,16 @@
 #![tactic(auto)]
 
 use planner::plan;
-use std::io;
 use std::io::{Read, Write};
 
 // One byte more than the longest sheet: no more of the input is needed.
-const ENOUGH: usize = 61_441;
+const ENOUGH: u64 = 61_441;
 
-// The input, up to so many bytes.
-fn read_input(rt: &HostRuntime, text: &mut [u8]) -> io::Result<usize> {
-    let mut input = rt.stdin();
-    let mut n: usize = 0;
-    for _ in 0..ENOUGH {
-        if n >= text.len() {
-            break;
-        }
-        let more = input.read(&mut text[n..])?;
-        if more == 0 {
-            break;
-        }
-        n += more;
-    }
-    Ok(n)
-}
-
-// Reads, plans and prints.
-fn run(rt: &HostRuntime) -> anyhow::Result<()> {
+fn main(rt: HostRuntime) -> anyhow::Result<()> {
     let heap = rt.alloc();
-    let mut text = vec![in heap; 0u8; ENOUGH]?;
-    let n = read_input(rt, text.as_mut_slice())?;
-    text.truncate(n);
+    let mut text = Vec::new(heap);
+    rt.stdin().take(ENOUGH).read_to_end(&mut text)?;
     let answer = plan(heap, text.as_slice())?;
     rt.stdout().write_all(answer.as_slice())?;
     Ok(())
-}
-
-fn main(rt: HostRuntime) -> anyhow::Result<()> {
-    run(&rt)
 }
