@@ -1,7 +1,7 @@
 -- Memory whose records move by one place: back, to make room, and up, to close the first place.
-use Rattle.std.proofs.Common.{◌≡◌, ℕ, ◌+◌, ◌-◌, ◌<◌, ◌≤◌, min, Bool, List, Some, [], ◌∷◌, ◌++◌, length, get_or, length-take, take, drop, set, sym, ap, ◌∙◌, ⊎_elim, append_assoc, arith}
-use Rattle.std.proofs.lemmas.List.{take_all, take_at, drop_at, take_more, set_at, length-take-le, drop-take, take-take, length-drop}
-use Rattle.std.proofs.lemmas.Bool.{cases_lt, and_parts}
+use Rattle.std.proofs.Common.{◌≡◌, ℕ, ◌+◌, ◌-◌, ◌<◌, ◌≤◌, min, Bool, List, Some, [], ◌∷◌, ◌++◌, length, get_or, length-take, take, drop, set, sym, ap, ◌∙◌, append_assoc, arith}
+use Rattle.std.proofs.lemmas.List.{take_min, take_at, drop_at, take_more, set_at, length-take-le, drop-take, take-take, length-drop}
+use Rattle.std.proofs.lemmas.Bool.{and_parts}
 use Rattle.std.specs.List.{copy_within, slice_get}
 use Rattle.std.proofs.lemmas.Option.{slice_get_within}
 use Rattle.table.specs.Order.{none_before, in_order}
@@ -18,14 +18,6 @@ put_at e len at x room within =
     let long : length (take at e) ≡ at = length-take-le at e (omega arith) in
     rw (more, moved, end, front) (simp append_assoc (set_at (take at e) (get_or e at x) _ x at long))
 
--- a length beyond the memory counts as the memory's
-take_min : {X : Type 0} (len n : ℕ) (e : List X) → n ≡ min len (length e) → take n e ≡ take len e
-take_min len n e is =
-    ⊎_elim
-    (λ lt. let same : n ≡ len = omega arith in ap (λ k. take k e) same)
-    (λ ge. take_all n e (omega arith) ∙ sym (take_all len e ge))
-    (cases_lt len (length e))
-
 -- the first record, and the others
 first_rest : {X : Type 0} (xs : List X) (x : X) → Some x ≡ slice_get xs 0 → xs ≡ x ∷ drop 1 xs
 first_rest [] x h = cc
@@ -41,7 +33,7 @@ taken_from b x len n e exit read is left =
     let same : 0 + i ≡ i = omega arith in
     let moved : exit ≡ take i (drop 1 e) ++ drop i e = left ∙ rw same in
     let rest : take i exit ≡ take i (drop 1 e) = ap (take i) moved ∙ take_at _ _ _ long in
-    let cut : drop 1 (take len e) ≡ take i (drop 1 e) = ap (drop 1) (sym (take_min len n e is) ∙ ap (λ k. take k e) more) ∙ drop-take 1 i e in
+    let cut : drop 1 (take len e) ≡ take i (drop 1 e) = ap (drop 1) (sym (take_min len e) ∙ ap (λ k. take k e) (sym is ∙ more)) ∙ drop-take 1 i e in
     let held : take len e ≡ x ∷ take i exit = first_rest (take len e) x read ∙ ap (λ l. x ∷ l) (cut ∙ sym rest) in
     record {
       count = omega arith;
