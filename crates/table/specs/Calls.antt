@@ -1,6 +1,13 @@
 -- What each call of a table leaves, by its memory at the entry and at the exit.
-use Rattle.std.specs.Prelude.{◌≡◌, ℕ, ◌+◌, ◌<◌, ◌≤◌, min, Bool, true, List, [], ◌∷◌, length, take, drop}
+use Rattle.std.specs.Prelude.{◌≡◌, ℕ, ◌+◌, ◌<◌, ◌≤◌, min, Bool, true, false, List, [], ◌∷◌, length, take, drop}
+use Rattle.std.specs.List.{HoldsAt}
 use Rattle.table.specs.Order.{in_order, placed, placed_last, Joined}
+
+-- x goes to the place n: it is before each record from there on, and not before the one in front of it
+pub record PlaceFor {X : Type 0} (b : X → X → Bool) (x : X) (xs : List X) (n : ℕ) : Type 0 where
+  pub within : n ≤ length xs
+  pub follows : (k : ℕ) → k + 1 ≡ n → HoldsAt (λ y. b x y ≡ false) xs k
+  pub leads : (k : ℕ) → n ≤ k → k < length xs → HoldsAt (λ y. b x y ≡ true) xs k
 
 -- x is put, and n is the length after: x has its place among the records held, and the memory behind them is as it was;
 -- where they stood in order, they do so after, with x behind its equals

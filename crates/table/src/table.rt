@@ -1,16 +1,18 @@
 // The table's calls. A table is a caller's slice, its memory, and a length: it holds the first `len` records of the slice.
 ghost use Rattle.std.specs.Prelude.{◌≡◌, take, MatchOption, MatchResult};
 ghost use Rattle.std.specs.List.{slice_get};
-ghost use Rattle.table.specs.Calls.{Put, Kept, Taken, Nothing};
+ghost use Rattle.table.specs.Calls.{PlaceFor, Put, Kept, Taken, Nothing};
 
 use crate::full::Full;
 use crate::order::Ordered;
 
-// Does x go in front of y? Of equals the one that came first stays in front.
-fn goes_before<T: Ordered>(x: &T, y: &T) -> bool
-    ensures { result ≡ T.before x.now y.now }
+// The place of x, behind the last record that it does not precede: of equals the one that came first stays in front.
+fn place_for<T: Ordered>(x: &T, held: &[T]) -> usize
+    ensures { PlaceFor T.before x.now held.now result }
 {
-    x.precedes(y)
+    held.iter()
+        .rposition(|y| !x.precedes(y))
+        .map_or(0, |last| last + 1)
 }
 
 // Puts a record behind its equals, and answers the length after; refused, with nothing changed, where every place is taken.
@@ -20,11 +22,8 @@ pub fn put<T: Ordered + Copy>(table: &mut [T], len: usize, x: T) -> Result<usize
     if len >= table.len() {
         return Err(Full);
     }
-    let mut at = len;
-    while at > 0 && goes_before(&x, &table[at - 1]) {
-        table[at] = table[at - 1];
-        at -= 1;
-    }
+    let at = place_for(&x, &table[..len]);
+    table.copy_within(at..len, at + 1);
     table[at] = x;
     Ok(len + 1)
 }
@@ -33,24 +32,15 @@ pub fn put<T: Ordered + Copy>(table: &mut [T], len: usize, x: T) -> Result<usize
 pub fn show<T: Copy>(table: &[T], len: usize, at: usize) -> Option<T>
     ensures { result ≡ slice_get (take len table.now) at }
 {
-    if at < len && at < table.len() {
-        Some(table[at])
-    } else {
-        None
-    }
+    table[..len.min(table.len())].get(at).copied()
 }
 
 // Takes the first record, the others moving up, and answers it with the length after; none where the table holds no record.
 pub fn take_first<T: Ordered + Copy>(table: &mut [T], len: usize) -> Option<(T, usize)>
     ensures { MatchOption result (Nothing len table.old table.new) (λ a. Taken T.before a.0 len table.old table.new a.1) }
 {
+    let first = show(table, len, 0)?;
     let count = len.min(table.len());
-    if count == 0 {
-        return None;
-    }
-    let first = table[0];
-    for i in 1..count {
-        table[i - 1] = table[i];
-    }
+    table.copy_within(1..count, 0);
     Some((first, count - 1))
 }

@@ -1,3 +1,2 @@
--- The two orders, and what a queue holds.
+-- The two orders.
 pub mod Orders
-pub mod Queues

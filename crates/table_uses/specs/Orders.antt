@@ -1,5 +1,5 @@
 -- The orders of the two record types.
-use Rattle.std.specs.Prelude.{Bool, cond, ◌&&◌, ◌||◌, ◌==◌, nat_lt}
+use Rattle.std.specs.Prelude.{Bool, if◌then◌else◌, ◌&&◌, ◌||◌, ◌==◌, nat_lt}
 use Rattle.table_uses.specs.declared.windows.Window.{Window}
 use Rattle.table_uses.specs.declared.waiting.Waiting.{Waiting}
 
@@ -13,4 +13,4 @@ waits_before p q = nat_lt p.arrival q.arrival || (p.arrival == q.arrival && nat_
 
 -- the later of two windows, the second where neither is before the other
 abbrev pub later : Window → Window → Window
-later v w = cond (starts_before w v) v w
+later v w = if starts_before w v then v else w

@@ -4,6 +4,7 @@ use crate::waiting::Waiting;
 use crate::windows::Window;
 use std::test::Fail;
 use table::full::Full;
+use table::owned::Table;
 use table::table::{put, show, take_first};
 
 const EARLY: Window = Window { start: 0, end: 5 };
@@ -61,5 +62,28 @@ fn serves_by_arrival_then_flow(rt: HostRuntime) -> Result<(), Fail> {
     queue.join(first)?;
     assert_eq!(rt; queue.leave(), Some(first));
     assert_eq!(rt; queue.head(), Some(second));
+    Ok(())
+}
+
+#[test]
+fn keeps_records_of_its_own(rt: HostRuntime) -> Result<(), Fail> {
+    let late = Waiting {
+        flow: 1,
+        number: 1,
+        arrival: 20,
+    };
+    let early = Waiting {
+        flow: 1,
+        number: 2,
+        arrival: 10,
+    };
+    let mut table = Table::<Waiting, 2>::new();
+    assert!(rt; table.is_empty());
+    table.put(late)?;
+    table.put(early)?;
+    assert_eq!(rt; table.put(late), Err(Full));
+    assert_eq!(rt; table.records(), [early, late].as_slice());
+    assert_eq!(rt; table.take_first(), Some(early));
+    assert_eq!(rt; table.first(), Some(late));
     Ok(())
 }

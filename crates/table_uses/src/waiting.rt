@@ -5,7 +5,7 @@ ghost use Rattle.std.proofs.Common.{rules};
 use table::order::Ordered;
 
 // A packet that waits: its flow, its number and its arrival.
-#[derive(Clone, Copy, PartialEq, Eq, Debug)]
+#[derive(Clone, Copy, PartialEq, Eq, Debug, Default)]
 pub struct Waiting {
     pub flow: u8,
     pub number: u64,
@@ -20,6 +20,6 @@ impl Ordered for Waiting {
     ghost behind = { Prim.search rules };
 
     fn precedes(&self, other: &Waiting) -> bool {
-        self.arrival < other.arrival || (self.arrival == other.arrival && self.flow < other.flow)
+        (self.arrival, self.flow) < (other.arrival, other.flow)
     }
 }

@@ -3,52 +3,41 @@ ghost use Rattle.std.specs.Prelude.{◌≡◌, ◌≤◌, [], length, drop, Matc
 ghost use Rattle.std.specs.List.{slice_get};
 ghost use Rattle.table.specs.Order.{placed};
 ghost use Rattle.table_uses.specs.Orders.{waits_before};
-ghost use Rattle.table_uses.specs.Queues.{held};
 
 use crate::queue::Queue;
 use crate::waiting::Waiting;
 use table::full::Full;
-use table::table::{put, show, take_first};
+use table::owned::Table;
 
 impl Queue {
     // An empty queue.
     pub fn new() -> Queue
-        ensures { held result ≡ [] }
+        ensures { result.waiting ≡ [] }
     {
-        let none = Waiting {
-            flow: 0,
-            number: 0,
-            arrival: 0,
-        };
         Queue {
-            waiting: [none; 64],
-            count: 0,
+            waiting: Table::new(),
         }
     }
 
     // A packet joins, in front of the first that it is before.
     pub fn join(&mut self, packet: Waiting) -> Result<(), Full>
-        ensures { MatchResult result (λ _. held self.new ≡ placed waits_before packet (held self.old)) (λ _. (64 ≤ length (held self.old)) × (held self.new ≡ held self.old)) }
+        ensures { MatchResult result (λ _. self.new.waiting ≡ placed waits_before packet self.old.waiting) (λ _. (64 ≤ length self.old.waiting) × (self.new.waiting ≡ self.old.waiting)) }
     {
-        let len = put(&mut self.waiting, self.count, packet)?;
-        self.count = len;
-        Ok(())
+        self.waiting.put(packet)
     }
 
     // The first packet.
     pub fn head(&self) -> Option<Waiting>
-        ensures { result ≡ slice_get (held self.now) 0 }
+        ensures { result ≡ slice_get self.now.waiting 0 }
     {
-        show(&self.waiting, self.count, 0)
+        self.waiting.first()
     }
 
     // The first packet leaves.
     pub fn leave(&mut self) -> Option<Waiting>
-        ensures first { result ≡ slice_get (held self.old) 0 }
-        ensures rest { held self.new ≡ drop 1 (held self.old) }
+        ensures first { result ≡ slice_get self.old.waiting 0 }
+        ensures rest { self.new.waiting ≡ drop 1 self.old.waiting }
     {
-        let (first, len) = take_first(&mut self.waiting, self.count)?;
-        self.count = len;
-        Some(first)
+        self.waiting.take_first()
     }
 }
