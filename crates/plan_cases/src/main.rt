@@ -13,23 +13,6 @@ fn agrees(rt: &HostRuntime, name: &str) -> anyhow::Result<bool> {
     Ok(answer.as_slice() == expected.as_slice())
 }
 
-// Compares all cases that `names` lists, one a line, and prints those that differ and the counts.
-fn run(rt: &HostRuntime) -> anyhow::Result<()> {
-    let names = fs::read_to_string(rt, "names")?;
-    let mut agreed: u32 = 0;
-    let mut differ: u32 = 0;
-    for name in names.lines() {
-        if agrees(rt, name)? {
-            agreed = agreed.saturating_add(1);
-        } else {
-            differ = differ.saturating_add(1);
-            println!(rt; "{name} differs")?;
-        }
-    }
-    println!(rt; "{agreed} agree, {differ} differ")?;
-    Ok(())
-}
-
 fn main(rt: HostRuntime) -> anyhow::Result<()> {
-    run(&rt)
+    cases::compare(&rt, |name| agrees(&rt, name))
 }

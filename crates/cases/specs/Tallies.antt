@@ -1,0 +1,8 @@
+-- How answers are counted. Assumes nothing.
+use Rattle.std.specs.Prelude.{◌+◌, ◌-◌, ◌^◌, min, Bool, true, false}
+use Rattle.cases.specs.declared.Tally.{Tally}
+
+-- the counts with one more answer
+abbrev pub tallied : Bool → Tally → Tally
+tallied true t = record { agree = min (t.agree + 1) (2 ^ 32 - 1); differ = t.differ }
+tallied false t = record { agree = t.agree; differ = min (t.differ + 1) (2 ^ 32 - 1) }
