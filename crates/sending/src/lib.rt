@@ -1,5 +1,5 @@
 // How a gated port sends, instant by instant, and what it promises. Each function stands for a theorem:
-// its clause is a statement of specs/, and it answers 0.
+// its clause is a statement of specs/, and its body is empty.
 #![tactic(auto)]
 
 pub mod checks;
