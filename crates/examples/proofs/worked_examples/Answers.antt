@@ -3,4 +3,4 @@ use mathlib.Core.Path.{refl}
 use Rattle.examples.proofs.worked_examples.Goals as goal
 
 pub returns : goal.returns
-returns c = ((refl, refl, refl), refl, c.worked_lists-lists.ensures, c.worked_run-run.ensures)
+returns c = ((refl, refl, refl), refl, c.worked_lists.ensures, c.worked_run.ensures)
