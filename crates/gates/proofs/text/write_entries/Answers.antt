@@ -7,8 +7,6 @@ use Rattle.gates.proofs.Texts.{list_text_more, length_front_text}
 use Rattle.gates.proofs.Writing.{written_none, written_more, written_room}
 use Rattle.gates.proofs.text.write_entries.Goals as goal
 
-pub loop-entry-init : goal.loop-entry-init
-loop-entry-init c = record { written = written_none 0 c.args.memory.now; short = omega arith; same_memory = refl }
 
 pub entry-requires : goal.entry-requires
 entry-requires c =

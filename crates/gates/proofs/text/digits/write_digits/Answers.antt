@@ -3,8 +3,6 @@ use Rattle.std.proofs.Common.{◌≡◌, ◌+◌, ◌-◌, arith}
 use Rattle.gates.proofs.Spelling.{spelling_none, spelling_more}
 use Rattle.gates.proofs.text.digits.write_digits.Goals as goal
 
-pub loop-place-init : goal.loop-place-init
-loop-place-init c = spelling_none c.args.n c.args.memory.now (omega arith) c.requires
 
 pub loop-place-preserved : goal.loop-place-preserved
 loop-place-preserved c =
