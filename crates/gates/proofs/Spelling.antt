@@ -1,7 +1,7 @@
 -- The digits of a number, written from the last to the first.
 use Rattle.std.proofs.Common.{◌≡◌, ℕ, ◌+◌, ◌/◌, ◌%◌, ◌^◌, ◌<◌, ◌≤◌, List, [], ◌∷◌, ◌++◌, length, drop, set, decimal, sym, ap, ◌∙◌, ⊎_elim, arith}
 use Rattle.std.proofs.lemmas.Bool.{cases_lt}
-use Rattle.std.proofs.lemmas.List.{append-nil, append_assoc, length-append, length-drop, drop-set, drop_all}
+use Rattle.std.proofs.lemmas.List.{append_assoc, length-append, length-drop, drop-set}
 use Rattle.std.proofs.lemmas.Fmt.{decimal_digit, decimal_step, decimal_nonempty}
 
 -- all but the first digits of n are written, and rest is the number that those spell; where none is left, all are
@@ -9,13 +9,6 @@ pub record Spelling (n rest left : ℕ) (m : List ℕ) : Type 0 where
   pub part : 0 < left → decimal n ≡ decimal rest ++ drop left m
   pub whole : left ≡ 0 → m ≡ decimal n
   pub least : rest ≤ n
-
--- no digit yet
-pub spelling_none : (n : ℕ) (m : List ℕ) → n < 2 ^ 32 → length m ≡ length (decimal n) → Spelling n n (length m) m
-spelling_none n m small long =
-    let some = decimal_nonempty n (omega arith) in
-    let none : drop (length m) m ≡ [] = drop_all (length m) m (omega arith) in
-    record { part = λ l. rw none (sym (append-nil (decimal n))); whole = λ e. absurd (omega arith); least = omega arith }
 
 -- a digit more
 pub spelling_more : (n rest left : ℕ) (m : List ℕ) → n < 2 ^ 32 → length m ≡ length (decimal n) → left < length m → Spelling n rest (left + 1) m → Spelling n (rest / 10) left (set m left (48 + rest % 10))

@@ -2,7 +2,7 @@
 use Rattle.std.proofs.Common.{◌≡◌, ℕ, ◌+◌, ◌-◌, ◌<◌, ◌≤◌, List, [], ◌∷◌, ◌++◌, length, take, drop, set, sym, refl, ap, ◌∙◌, arith}
 use borrow.Rule.Slice.PartMut.{put_mid}
 use Rattle.std.proofs.lemmas.Slice.{take-put_mid, drop-put_mid}
-use Rattle.std.proofs.lemmas.List.{append-nil, append_assoc, length-append, length-take, length-take-le, length-drop, drop-drop, drop-set-lt, take_more_set}
+use Rattle.std.proofs.lemmas.List.{append_assoc, length-append, length-take, length-take-le, length-drop, drop-drop, drop-set-lt, take_more_set}
 use Rattle.gates.specs.Writes.{WrittenAt}
 
 -- what stands past a is the same where it is the same past a smaller place
@@ -12,10 +12,6 @@ drop_past a b xs ys h e =
     let l : drop (b - a) (drop a xs) ≡ drop b xs = rw at at (drop-drop (b - a) a xs) in
     let r : drop (b - a) (drop a ys) ≡ drop b ys = rw at at (drop-drop (b - a) a ys) in
     sym l ∙ ap (drop (b - a)) e ∙ r
-
--- nothing is written
-pub written_none : (at : ℕ) (m : List ℕ) → WrittenAt [] at at m m
-written_none at m = record { ends = omega arith; front = sym (append-nil (take at m)); behind = refl }
 
 -- one text behind another
 pub written_more : (bs cs : List ℕ) (a b c : ℕ) (m m' m'' : List ℕ) → WrittenAt bs a b m m' → WrittenAt cs b c m' m'' → WrittenAt (bs ++ cs) a c m m''

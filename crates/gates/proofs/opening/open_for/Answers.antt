@@ -1,13 +1,11 @@
 -- One entry after another.
-use Rattle.std.proofs.Common.{◌≡◌, ◌+◌, ◌-◌, true, false, get_or, drop, sym, ap, ◌∙◌, arith}
-use Rattle.std.proofs.lemmas.List.{drop_more, drop_all}
+use Rattle.std.proofs.Common.{◌≡◌, ◌+◌, ◌-◌, true, get_or, drop, sym, ap, ◌∙◌, arith}
+use Rattle.std.proofs.lemmas.List.{drop_more}
 use Rattle.gates.specs.Open.{opens, open_for}
-use Rattle.gates.proofs.Stays.{for_open_here, for_shut_here, for_later, stays_for, one_stretch}
+use Rattle.gates.proofs.Stays.{for_open_here, for_later, stays_for, one_stretch}
 use Rattle.gates.specs.Entries.{no_entry}
 use Rattle.gates.proofs.opening.open_for.Goals as goal
 use Rattle.gates.proofs.opening.open_for.Goals.{then-ahead-interval, else-ahead-interval+then-opens}
-
-
 
 pub loop-entry-preserved : goal.loop-entry-preserved
 loop-entry-preserved c =

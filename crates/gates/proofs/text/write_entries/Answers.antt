@@ -1,12 +1,11 @@
 -- Line by line.
-use Rattle.std.proofs.Common.{◌+◌, ◌*◌, ◌≤◌, length, get_or, take, ap, ◌∙◌, ⊎_elim, inl, inr, refl, rules, arith}
+use Rattle.std.proofs.Common.{◌+◌, ◌*◌, ◌≤◌, length, get_or, take, ap, ◌∙◌, ⊎_elim, inl, inr, rules, arith}
 use Rattle.std.proofs.lemmas.List.{length-append, take_all}
 use Rattle.gates.specs.Text.{entry_text, list_text}
 use Rattle.gates.specs.Entries.{no_entry}
 use Rattle.gates.proofs.Texts.{list_text_more, length_front_text}
-use Rattle.gates.proofs.Writing.{written_none, written_more, written_room}
+use Rattle.gates.proofs.Writing.{written_more, written_room}
 use Rattle.gates.proofs.text.write_entries.Goals as goal
-
 
 pub entry-requires : goal.entry-requires
 entry-requires c =
@@ -29,11 +28,11 @@ loop-entry-preserved c =
     let i = c.loop-entry.entry-index in
     let x = get_or xs i no_entry in
     let more = list_text_more xs i c.loop-entry-test.true in
-    let ends = c.entry.ensures.written.ends in
+    let ends = c.entry.ensures.wrote.written.ends in
     record {
-      written = rw more (written_more _ _ _ _ _ _ _ _ c.loop-entry.invariant.written c.entry.ensures.written);
+      written = rw more (written_more _ _ _ _ _ _ _ _ c.loop-entry.invariant.written c.entry.ensures.wrote.written);
       short = omega arith;
-      same_memory = c.entry.ensures.same_memory ∙ c.loop-entry.invariant.same_memory;
+      same_memory = c.entry.ensures.wrote.same_memory ∙ c.loop-entry.invariant.same_memory;
     }
 
 pub returns : goal.returns

@@ -1,8 +1,7 @@
 -- Each turn puts one digit in front of those that stand.
 use Rattle.std.proofs.Common.{◌≡◌, ◌+◌, ◌-◌, arith}
-use Rattle.gates.proofs.Spelling.{spelling_none, spelling_more}
+use Rattle.gates.proofs.Spelling.{spelling_more}
 use Rattle.gates.proofs.text.digits.write_digits.Goals as goal
-
 
 pub loop-place-preserved : goal.loop-place-preserved
 loop-place-preserved c =

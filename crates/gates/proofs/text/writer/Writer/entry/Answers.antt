@@ -45,4 +45,4 @@ returns c =
     written_more _ _ _ _ _ _ _ _ c.field.ensures.written
     (written_more _ _ _ _ _ _ _ _ c.field-2.ensures.written (written_more _ _ _ _ _ _ _ _ c.field-3.ensures.written c.field-4.ensures.written)) in
     let ends = line.ends in
-    record { written = line; short = omega arith; same_memory = cc }
+    record { wrote = record { written = line; same_memory = cc }; short = omega arith }
