@@ -14,6 +14,7 @@ pub(super) fn write_digits(n: u32, memory: &mut [u8])
     requires { length memory.old ≡ length (decimal n) }
     ensures { memory.new ≡ decimal n }
 {
+    // by place: nothing is known of what an adapter of `iter_mut` wrote
     let mut rest = n;
     for place in (0..memory.len()).rev() {
         memory[place] = b'0' + (rest % 10) as u8;
