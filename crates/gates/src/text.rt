@@ -6,7 +6,7 @@ ghost use Rattle.gates.specs.Writes.{WrittenAt, Listed, write_fault, refusal_of}
 use crate::entry::{Entry, MOST_ENTRIES};
 use crate::text::lengths::text_length;
 use crate::text::writer::Writer;
-use refusal::Refusal;
+use refusal::{Reason, Refusal};
 
 mod digits;
 mod lengths;
@@ -26,15 +26,15 @@ pub enum WriteFault {
     Memory,
 }
 
-impl WriteFault {
-    // The refusal that a fault stands for.
-    pub fn refusal(self) -> Refusal
-        ensures { result ≡ refusal_of self }
-    {
-        match self {
-            WriteFault::Entries => Refusal::plain(20),
-            WriteFault::Memory => Refusal::plain(21),
-        }
+// The refusal that a fault stands for.
+impl From<WriteFault> for Refusal {
+    ghost from_gives = { λ fault r. r ≡ refusal_of fault };
+
+    fn from(fault: WriteFault) -> Refusal {
+        Refusal::from(match fault {
+            WriteFault::Entries => Reason::WrittenSize,
+            WriteFault::Memory => Reason::ShortMemory,
+        })
     }
 }
 
