@@ -2,7 +2,7 @@
 use Rattle.std.proofs.Common.{◌≡◌, ℕ, ◌<◌, ◌≤◌, ◌&&◌, ltb, leb, Some, None, sym, refl, ap, ◌∙◌, ⊎_elim, arith}
 use Prim.Native.Nat.{◌∣◌}
 use native.Mathlib.Nat.{le_of_dvd}
-use Rattle.std.proofs.lemmas.Bool.{cases_lt, cond-true, cond-false, le-leb, lt-leb, lt-ltb, le-ltb, and_from, and_left, and_right}
+use Rattle.std.proofs.lemmas.Bool.{cases_lt, cond-true, cond-false, le-leb, lt-leb, le-ltb, and_left, and_right}
 use Rattle.cycle.specs.Multiple.{within, from_one_to}
 
 pub within_some : (limit n v : ℕ) → v ≡ n → v ≤ limit → Some v ≡ within limit n
@@ -24,12 +24,6 @@ none_within limit n h = ⊎_elim
     (λ (l : limit < n). l)
     (λ (l : n ≤ limit). let e = within_some limit n n refl l in let z : ◌≡◌ {A = ℕ} 0 1 = cc in absurd (omega arith))
     (cases_lt limit n)
-
-pub from_one_some : (limit n v : ℕ) → v ≡ n → 0 < v → v ≤ limit → Some v ≡ from_one_to limit n
-from_one_some limit n v e s l =
-    let some : 0 < n = omega arith in
-    let k : n ≤ limit = omega arith in
-    ap (λ (x : ℕ). Some x) e ∙ sym (cond-true (ltb 0 n && leb n limit) (Some n) None (and_from (ltb 0 n) (leb n limit) (lt-ltb 0 n some) (le-leb n limit k)))
 
 pub from_one-zero : (limit n : ℕ) → n ≡ 0 → None ≡ from_one_to limit n
 from_one-zero limit n e = let none : n ≤ 0 = omega arith in sym (cond-false (ltb 0 n && leb n limit) (Some n) None (and_left (ltb 0 n) (leb n limit) (le-ltb 0 n none)))
