@@ -1,18 +1,13 @@
 // The text cut at a byte.
-ghost use Rattle.std.specs.Prelude.{◌≡◌, ◌+◌, ◌<◌, length, take, drop, Some, None, MatchOption};
+ghost use Rattle.std.specs.Prelude.{◌≡◌, ◌==◌, position};
 ghost use Rattle.std.specs.Option.{option_map};
 ghost use Rattle.sheet.specs.Cuts.{cut_at, both_parts};
 
 // The place of the first byte `b`.
 fn place_of(text: &[u8], b: u8) -> Option<usize>
-    ensures { MatchOption result (cut_at b text.now ≡ None) (λ i. (i < length text.now) × (cut_at b text.now ≡ Some (take i text.now, drop (i + 1) text.now))) }
+    ensures { result ≡ position (λ x. x == b) text.now }
 {
-    for (i, x) in text.iter().enumerate() {
-        if *x == b {
-            return Some(i);
-        }
-    }
-    None
+    text.iter().position(|x| *x == b)
 }
 
 // The part before the first byte `b` and the part behind it; none where there is no such byte.

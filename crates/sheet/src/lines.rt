@@ -87,12 +87,7 @@ fn spells(bytes: &[u8], key: Key) -> bool
 fn spelled(bytes: &[u8], keys: &[Key]) -> Option<Key>
     ensures { result ≡ spelled bytes.now keys.now }
 {
-    for key in keys {
-        if spells(bytes, *key) {
-            return Some(*key);
-        }
-    }
-    None
+    keys.iter().find(|key| spells(bytes, **key)).copied()
 }
 
 // The key that the bytes spell.
