@@ -43,12 +43,12 @@ module _ (text : List ℕ) (fits : length text ≤ 61440) where
   no_lines e (inr h) = let short = le-ltb 61440 (length text) fits in inr (rw (short, h))
 
   -- the cycle is within its limit
-  pub whole : (t : Traffic) (v : ℕ) → lines_of text ≡ Ok t → Some v ≡ from_one_to 1000000000 (cycle_of t.flows) → (sheet_of text ≡ Ok t) × (v ≡ cycle_of t.flows) × (v ≤ 1000000000)
+  pub whole : (t : Traffic) (v : ℕ) → lines_of text ≡ Ok t → Some v ≡ from_one_to 1000000000 (cycle_of t.flows) → (sheet_of text ≡ Ok t) × (v ≡ cycle_of t.flows)
   whole t v h given =
       let short = le-ltb 61440 (length text) fits in
       let got = some_given 1000000000 (cycle_of t.flows) v given in
       let yes = le-leb (cycle_of t.flows) 1000000000 (omega arith) in
-      (rw (short, h, yes), got.0, got.1)
+      (rw (short, h, yes), got.0)
 
   -- the cycle passes it
   pub long_cycle : (t : Traffic) → lines_of text ≡ Ok t → None ≡ from_one_to 1000000000 (cycle_of t.flows) → 0 < cycle_of t.flows → sheet_of text ≡ Err Cycle

@@ -1,5 +1,5 @@
 // The text cut at a byte.
-ghost use Rattle.std.specs.Prelude.{◌≡◌, ◌==◌, position};
+ghost use Rattle.std.specs.Prelude.{◌≡◌, ◌<◌, ◌==◌, length, position, IfSome};
 ghost use Rattle.std.specs.Option.{option_map};
 ghost use Rattle.sheet.specs.Cuts.{cut_at, both_parts};
 
@@ -12,7 +12,8 @@ fn place_of(text: &[u8], b: u8) -> Option<usize>
 
 // The part before the first byte `b` and the part behind it; none where there is no such byte.
 pub(crate) fn cut(text: &[u8], b: u8) -> Option<(&[u8], &[u8])>
-    ensures { option_map both_parts result ≡ cut_at b text.now }
+    ensures parts { option_map both_parts result ≡ cut_at b text.now }
+    ensures shorter { IfSome result (λ p. length p.1.now < length text.now) }
 {
     let i = place_of(text, b)?;
     Some((&text[0..i], &text[i + 1..]))

@@ -139,16 +139,16 @@ impl<'a> Line<'a> {
         ensures { result ≡ line_part self.now }
     {
         match *self {
-            Line::Rate(part) => part,
-            Line::Flow(part) => part,
-            Line::Queue(part) => part,
-            Line::Octets(part) => part,
-            Line::Period(part) => part,
-            Line::Deadline(part) => part,
-            Line::Miss(part) => part,
-            Line::Of(part) => part,
-            Line::Weight(part) => part,
-            Line::Flows(part) => part,
+            Line::Rate(part)
+            | Line::Flow(part)
+            | Line::Queue(part)
+            | Line::Octets(part)
+            | Line::Period(part)
+            | Line::Deadline(part)
+            | Line::Miss(part)
+            | Line::Of(part)
+            | Line::Weight(part)
+            | Line::Flows(part) => part,
         }
     }
 

@@ -11,12 +11,12 @@ parts i xs =
     let b : take (length xs - (i + 1)) (drop (i + 1) xs) ≡ drop (i + 1) xs = take_all _ _ (omega (arith, length-drop (i + 1) xs)) in
     rw (a, b)
 
-pub returns-in_err-i : goal.returns-in_err-i
-returns-in_err-i c =
+pub returns-in_err-i-clause-parts : goal.returns-in_err-i-clause-parts
+returns-in_err-i-clause-parts c =
     let xs = c.args.text.now in
     rw c.from_residual.ensures (ap (option_map (parts_at xs)) c.in_err-i.ensures ∙ sym (cut-at_position c.args.b xs))
 
-pub returns : goal.returns
-returns c =
+pub returns-clause-parts : goal.returns-clause-parts
+returns-clause-parts c =
     let xs = c.args.text.now in
     ap Some (parts c.in_ok-i.i xs) ∙ ap (option_map (parts_at xs)) c.in_ok-i.ensures ∙ sym (cut-at_position c.args.b xs)

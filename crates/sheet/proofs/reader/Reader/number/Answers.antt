@@ -6,5 +6,6 @@ use Rattle.sheet.proofs.reader.Reader.number.Goals as goal
 pub returns : goal.returns
 returns c =
     let a = c.in_ok-next_line.ensures in
-    number_reads c.args.key c.args.low c.args.high (cursor c.args.self.now) c.in_ok-next_line.field-0 (cursor c.next_line.new.self) c.in_ok-part.part c.between.result
-    a.reads a.place.0 a.place.1 c.in_ok-part.ensures c.between.ensures
+    let read = number_reads c.args.key c.args.low c.args.high (cursor c.args.self.now) c.in_ok-next_line.field-0 (cursor c.next_line.new.self) c.in_ok-part.part c.between.result
+    a.reads a.place c.in_ok-part.ensures c.between.ensures in
+    record { reads = read.0; range = read.1 }
