@@ -1,6 +1,7 @@
 -- One flow after another, and all lines. Assumes nothing.
 use Rattle.std.proofs.Common.{◌≡◌, ℕ, zero, suc, ◌+◌, ◌-◌, ◌<◌, true, false, eqb, ◌⊎◌, List, [], ◌∷◌, ◌++◌, length, Ok, Err, Result, ap, inl, inr, arith}
 use Rattle.std.specs.List.{AllByRecursion}
+use Rattle.std.proofs.lemmas.List.{length_push}
 use Rattle.std.proofs.lemmas.Bool.{and_parts}
 use Rattle.traffic.specs.declared.rate.Rate.{Rate}
 use Rattle.traffic.specs.declared.flow.Flow.{Flow}
@@ -25,22 +26,22 @@ module _ (rate : Rate) (done : List Flow) (count : ℕ) (c : Cursor) (counted : 
   last_heading (suc n) after h = let k : heading_line (length done) c ≡ Ok (false, after) = rw counted at h in rw k
 
   -- a flow begins, and one of its lines is at fault
-  pub no_flow_lines : (after : Cursor) (e : LineFault) → count < 64 → heading_line count c ≡ Ok (true, after) → flow_lines rate after ≡ Err e → flows_from (64 - count) rate done c ≡ Err e
+  pub no_flow_lines : (after : Cursor) (e : LineFault) → count < 64 → heading_line count c ≡ Ok (true, after) → flow_lines rate after ≡ Err e → flows_from (64 - length done) rate done c ≡ Err e
   no_flow_lines after e few h f =
       let k : heading_line (length done) c ≡ Ok (true, after) = rw counted at h in
-      let left : 64 - count ≡ suc (64 - (count + 1)) = omega arith in
+      let left : 64 - length done ≡ suc (64 - (length done + 1)) = omega arith in
       rw (left, k, f)
 
   -- one flow more
-  pub one_flow : (after next : Cursor) (f : Flow) → count < 64 → heading_line count c ≡ Ok (true, after) → flow_lines rate after ≡ Ok (f, next) → flows_from (64 - count) rate done c ≡ flows_from (64 - (count + 1)) rate (done ++ (f ∷ [])) next
+  pub one_flow : (after next : Cursor) (f : Flow) → count < 64 → heading_line count c ≡ Ok (true, after) → flow_lines rate after ≡ Ok (f, next) → flows_from (64 - length done) rate done c ≡ flows_from (64 - length (done ++ (f ∷ []))) rate (done ++ (f ∷ [])) next
   one_flow after next f few h lines =
       let k : heading_line (length done) c ≡ Ok (true, after) = rw counted at h in
-      let left : 64 - count ≡ suc (64 - (count + 1)) = omega arith in
-      rw (left, k, lines)
+      let left : 64 - length done ≡ suc (64 - (length done + 1)) = omega arith in
+      rw (left, k, lines, length_push done f)
 
 -- a fault stays one of the sheet, whatever was to come
 in_sheet_stays : {X Y : Type 0} (x : Result X LineFault) (f : X → Result Y LineFault) (e : SheetFault) → in_sheet x ≡ Err e → in_sheet (and_then x f) ≡ Err e
-in_sheet_stays (Ok x) f e h = let z : ◌≡◌ {A = ℕ} 0 1 = cc in absurd (omega arith)
+in_sheet_stays (Ok x) f e h = absurd (grind arith)
 in_sheet_stays (Err l) f e h = let same : fault.Line l ≡ e = cc in ap Err same
 
 module _ (text : List ℕ) (rate : Rate) (after : Cursor) (rated : rate_line (record { rest = text; line = 1 }) ≡ Ok (rate, after)) where

@@ -29,7 +29,7 @@ pub struct Part<'a> {
     pub bytes: &'a [u8],
 }
 
-// A line by its key, which was cut off.
+// A line by its key, which was cut off. That the kinds stand here, too, is a rule of the project; `with` and `key` tie them to `Key`.
 #[derive(Clone, Copy)]
 pub enum Line<'a> {
     Rate(Part<'a>),

@@ -30,7 +30,7 @@ fn read_text(text: &[u8], flows: &mut Vec<Flow>) -> Result<(Rate, u64), SheetFau
     Ok((rate, cycle))
 }
 
-// Takes all flows away. No method: where a reading was refused, flows of it break what a sheet keeps.
+// Takes all flows away. It takes no sheet: flows of a refused text break what a sheet keeps, so no method can be called.
 fn forget(flows: &mut Vec<Flow>)
     ensures items { flows.new.items ≡ [] }
     ensures len { vec_len flows.new ≡ 0 }

@@ -1,7 +1,7 @@
 -- One digit more.
-use Rattle.std.proofs.Common.{◌≡◌, ◌+◌, ◌-◌, ◌*◌, ◌^◌, ◌<◌, ℕ, true, false, ◌&&◌, get_or, drop, Some, inl, inr, sym, ap, ◌∙◌, pow-suc, add-one, arith}
+use Rattle.std.proofs.Common.{◌≡◌, ◌+◌, ◌-◌, ◌*◌, ◌^◌, ◌<◌, ℕ, true, false, ◌&&◌, get_or, drop, inl, inr, sym, ◌∙◌, pow-suc, add-one, arith}
 use Rattle.std.proofs.lemmas.Bool.Decides.{nat_tests}
-use Rattle.std.proofs.lemmas.List.{at_drop_more, at_drop_all}
+use Rattle.std.proofs.lemmas.List.{at_drop_more}
 use Rattle.std.specs.Str.{all_ascii_digits}
 use Rattle.std.specs.Char.{is_ascii_digit, IsDigitOf, NotDecimalDigitIn}
 use Rattle.sheet.specs.Numbers.{digits_value}
@@ -41,11 +41,3 @@ loop-b-preserved c =
     let pow : 10 ^ (i + 1) ≡ 10 ^ i * 10 = rw add-one (pow-suc 10 i) in
     let low : n < 10 ^ i = c.loop-b.invariant.2 in
     (sym here ∙ c.loop-b.invariant.0, rw digit.1 (sym val ∙ c.loop-b.invariant.1), omega arith)
-
-pub returns : goal.returns
-returns c =
-    let xs = c.args.bytes.now in
-    let end : all_ascii_digits (drop c.loop-b.b-index xs) ≡ true = at_drop_all all_ascii_digits xs _ c.loop-b-test.false in
-    let val : digits_value c.loop-b.n (drop c.loop-b.b-index xs) ≡ c.loop-b.n = at_drop_all (digits_value c.loop-b.n) xs _ c.loop-b-test.false in
-    let all : all_ascii_digits xs ≡ true = cc in
-    rw all (ap Some (cc))

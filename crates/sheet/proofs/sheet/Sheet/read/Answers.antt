@@ -15,10 +15,8 @@ invariant_of-self c =
     let short : cycle_of (vec_items flows) ≤ 1000000000 = keeps.short in
     record { few = omega arith; kept = keeps.ranges; round = read.1; short = omega (arith, read.1) }
 
-pub invariant_of-self-in-Err : goal.invariant_of-self-in-Err
-invariant_of-self-in-Err c =
-    let none = c.forget.ensures.items in
-    record { few = omega (arith, c.forget.ensures.len); kept = rw none; round = c.clear.new.self.round ∙ ap (λ (t : Traffic). cycle_of t.flows) c.clear.ensures ∙ ap cycle_of (sym none); short = c.clear.new.self.short }
+pub invariant_of-self-in-Err-clause-round : goal.invariant_of-self-in-Err-clause-round
+invariant_of-self-in-Err-clause-round c = c.clear.new.self.round ∙ ap (λ (t : Traffic). cycle_of t.flows) c.clear.ensures ∙ ap cycle_of (sym c.forget.ensures.items)
 
 pub returns-in-Ok : goal.returns-in-Ok
 returns-in-Ok c =
