@@ -31,10 +31,7 @@ pub fn cycle_within(flows: &[Flow], limit: u64) -> Option<u64>
     for flow in flows {
         cycle = lcm_within(cycle, pattern_time(flow), limit)?;
     }
-    if cycle == 0 || cycle > limit {
-        return None;
-    }
-    Some(cycle)
+    (cycle > 0 && cycle <= limit).then_some(cycle)
 }
 
 // The number in the cycle of packet `number` of the flow; none where no packet of the flow is in the cycle.

@@ -12,9 +12,7 @@ pub fn gcd(a: u64, b: u64) -> u64
     let mut x = a;
     let mut y = b;
     while y != 0 {
-        let rest = x % y;
-        x = y;
-        y = rest;
+        (x, y) = (y, x % y);
     }
     x
 }
@@ -28,10 +26,7 @@ pub fn lcm_within(a: u64, b: u64, limit: u64) -> Option<u64>
     if a == 0 {
         return Some(0);
     }
-    let multiple = (a / gcd(a, b)).checked_mul(b)?;
-    if multiple <= limit {
-        Some(multiple)
-    } else {
-        None
-    }
+    (a / gcd(a, b))
+        .checked_mul(b)
+        .filter(|multiple| *multiple <= limit)
 }

@@ -8,9 +8,11 @@ use Rattle.traffic.specs.declared.flow.Flow.{Flow}
 use Rattle.traffic.specs.Wire.{wire_time}
 use Rattle.sheet.specs.declared.lines.Key.{Key}
 use Rattle.sheet.specs.declared.lines.Key.TheVariants as key
+use Rattle.sheet.specs.declared.reader.steps.Frame.{Frame}
+use Rattle.sheet.specs.declared.reader.steps.Timing.{Timing}
 use Rattle.sheet.specs.Lines.{same_key, ranged}
 use Rattle.sheet.specs.Ranges.{between, flow_ranged, flow_kept, all_kept}
-use Rattle.sheet.specs.Reading.{Cursor, Keyed, Frame, Timing, and_then, next_line, number_line, timely, frame_lines, timing_lines, flow_lines, heading, heading_line, flows_from}
+use Rattle.sheet.specs.Reading.{Cursor, Keyed, and_then, next_line, number_line, timely, frame_lines, timing_lines, flow_lines, heading, heading_line, flows_from}
 use Rattle.sheet.specs.Spelling.{line_text, flow_text, flows_text}
 use Rattle.sheet.proofs.Outcomes.{and_then_ok, met}
 use Rattle.sheet.proofs.Numerals.{between_parts, between_from, ranged-made}

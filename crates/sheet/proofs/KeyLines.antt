@@ -1,6 +1,7 @@
 -- A line of a sheet's text and its one spelling. Assumes nothing.
 use Rattle.std.proofs.Common.{◌≡◌, ℕ, ◌+◌, ◌^◌, ◌<◌, ◌≤◌, Bool, true, ◌&&◌, eqb, ltb, leb, List, [], ◌∷◌, ◌++◌, length, Some, None, Ok, decimal, Option, sym, refl, ap, ◌∙◌, subst, ⊎_elim, append_assoc, arith, length-append}
 use Rattle.std.proofs.lemmas.Bool.{eqb-true, ltb-true, leb-true, eq-eqb, ne_eqb, and_parts, and_from, cases_Bool}
+use Rattle.std.proofs.lemmas.Option.{none-some}
 use Rattle.std.proofs.lemmas.Bool.Decides.{nat_tests}
 use Rattle.std.proofs.lemmas.Slice.Eq.{bytes_eq-Decides}
 use Rattle.std.specs.Char.{is_ascii_digit}
@@ -15,10 +16,6 @@ use Rattle.sheet.specs.Spelling.{line_text}
 use Rattle.sheet.proofs.Outcomes.{no_fault, and_then_ok, met}
 use Rattle.sheet.proofs.Numerals.{between_parts, ranged_parts, ranged-made, digits_of_decimal, length_of_decimal}
 
--- none is not some
-none_some : {X : Type 0} (x : X) → ◌≡◌ {A = Option X} None (Some x) → ⊥
-none_some x h = let z : ◌≡◌ {A = ℕ} 0 1 = cc in omega arith
-
 -- each byte is greater than b
 abbrev above : ℕ → List ℕ → Bool
 above b [] = true
@@ -26,12 +23,12 @@ above b (x ∷ xs) = ltb b x && above b xs
 
 -- where something was put in front, there was something
 behind_some : (front : List ℕ) (o : Option (List ℕ × List ℕ)) (p : List ℕ × List ℕ) → behind front o ≡ Some p → (q : List ℕ × List ℕ) × (o ≡ Some q) × (◌≡◌ {A = List ℕ × List ℕ} (front ++ q.0, q.1) p)
-behind_some front None p h = absurd (none_some p h)
+behind_some front None p h = absurd (none-some p h)
 behind_some front (Some q) p h = (q, refl, cc)
 
 -- the two parts of a text, with the byte between them
 cut_parts : (b : ℕ) (zs : List ℕ) (p : List ℕ × List ℕ) → cut_at b zs ≡ Some p → zs ≡ p.0 ++ (b ∷ p.1)
-cut_parts b [] p h = absurd (none_some p h)
+cut_parts b [] p h = absurd (none-some p h)
 cut_parts b (z ∷ zs) p h =
     let joined = λ (q : List ℕ × List ℕ). q.0 ++ (b ∷ q.1) in
     ⊎_elim
@@ -87,7 +84,7 @@ told key.Flows = record { free = refl; one_line = refl; tells_key = refl; short 
 
 -- bytes that spell a key are its bytes
 spelled_text : (bs : List ℕ) (ks : List Key) (k : Key) → spelled bs ks ≡ Some k → bs ≡ key_text k
-spelled_text bs [] k h = absurd (none_some k h)
+spelled_text bs [] k h = absurd (none-some k h)
 spelled_text bs (j ∷ ks) k h =
     ⊎_elim
     (λ e. let g : ◌≡◌ {A = Option Key} (Some j) (Some k) = rw e at h in let s : j ≡ k = cc in (bytes_eq-Decides bs (key_text j)).0 e ∙ ap key_text s)

@@ -1,7 +1,8 @@
 -- One flow after another, and all lines. Assumes nothing.
-use Rattle.std.proofs.Common.{◌≡◌, ℕ, zero, suc, ◌+◌, ◌-◌, ◌<◌, ◌≤◌, true, false, ◌⊎◌, List, [], ◌∷◌, ◌++◌, length, Ok, Err, Result, ap, inl, inr, arith}
+use Rattle.std.proofs.Common.{◌≡◌, ℕ, zero, suc, ◌+◌, ◌-◌, ◌<◌, true, false, eqb, ◌⊎◌, List, [], ◌∷◌, ◌++◌, length, Ok, Err, Result, ap, inl, inr, arith}
 use Rattle.std.specs.List.{AllByRecursion}
-use Rattle.std.proofs.lemmas.Bool.{eq-eqb, and_parts, and_from}
+use Rattle.std.proofs.lemmas.List.{length_push}
+use Rattle.std.proofs.lemmas.Bool.{and_parts}
 use Rattle.traffic.specs.declared.rate.Rate.{Rate}
 use Rattle.traffic.specs.declared.flow.Flow.{Flow}
 use Rattle.sheet.specs.declared.faults.LineFault.{LineFault}
@@ -25,22 +26,22 @@ module _ (rate : Rate) (done : List Flow) (count : ℕ) (c : Cursor) (counted : 
   last_heading (suc n) after h = let k : heading_line (length done) c ≡ Ok (false, after) = rw counted at h in rw k
 
   -- a flow begins, and one of its lines is at fault
-  pub no_flow_lines : (after : Cursor) (e : LineFault) → count < 64 → heading_line count c ≡ Ok (true, after) → flow_lines rate after ≡ Err e → flows_from (64 - count) rate done c ≡ Err e
+  pub no_flow_lines : (after : Cursor) (e : LineFault) → count < 64 → heading_line count c ≡ Ok (true, after) → flow_lines rate after ≡ Err e → flows_from (64 - length done) rate done c ≡ Err e
   no_flow_lines after e few h f =
       let k : heading_line (length done) c ≡ Ok (true, after) = rw counted at h in
-      let left : 64 - count ≡ suc (64 - (count + 1)) = omega arith in
+      let left : 64 - length done ≡ suc (64 - (length done + 1)) = omega arith in
       rw (left, k, f)
 
   -- one flow more
-  pub one_flow : (after next : Cursor) (f : Flow) → count < 64 → heading_line count c ≡ Ok (true, after) → flow_lines rate after ≡ Ok (f, next) → flows_from (64 - count) rate done c ≡ flows_from (64 - (count + 1)) rate (done ++ (f ∷ [])) next
+  pub one_flow : (after next : Cursor) (f : Flow) → count < 64 → heading_line count c ≡ Ok (true, after) → flow_lines rate after ≡ Ok (f, next) → flows_from (64 - length done) rate done c ≡ flows_from (64 - length (done ++ (f ∷ []))) rate (done ++ (f ∷ [])) next
   one_flow after next f few h lines =
       let k : heading_line (length done) c ≡ Ok (true, after) = rw counted at h in
-      let left : 64 - count ≡ suc (64 - (count + 1)) = omega arith in
-      rw (left, k, lines)
+      let left : 64 - length done ≡ suc (64 - (length done + 1)) = omega arith in
+      rw (left, k, lines, length_push done f)
 
 -- a fault stays one of the sheet, whatever was to come
 in_sheet_stays : {X Y : Type 0} (x : Result X LineFault) (f : X → Result Y LineFault) (e : SheetFault) → in_sheet x ≡ Err e → in_sheet (and_then x f) ≡ Err e
-in_sheet_stays (Ok x) f e h = let z : ◌≡◌ {A = ℕ} 0 1 = cc in absurd (omega arith)
+in_sheet_stays (Ok x) f e h = absurd (grind arith)
 in_sheet_stays (Err l) f e h = let same : fault.Line l ≡ e = cc in ap Err same
 
 module _ (text : List ℕ) (rate : Rate) (after : Cursor) (rated : rate_line (record { rest = text; line = 1 }) ≡ Ok (rate, after)) where
@@ -50,15 +51,8 @@ module _ (text : List ℕ) (rate : Rate) (after : Cursor) (rated : rate_line (re
   no_flows e (inr h) = inr (rw rated (in_sheet_stays (flows_from 64 rate [] after) _ e h))
 
   -- all lines are read
-  pub all_lines : (fs : List Flow) (end : Cursor) → flows_from 64 rate [] after ≡ Ok (fs, end) → length end.rest ≤ 0 → lines_of text ≡ Ok (record { rate = rate; flows = fs })
-  all_lines fs end h none = let yes = eq-eqb (length end.rest) 0 (omega arith) in rw (rated, h, yes)
-
--- one more that keeps its ranges
-pub all_kept_push : (r : Rate) (fs : List Flow) (f : Flow) → all_kept r fs ≡ true → flow_kept r f ≡ true → all_kept r (fs ++ (f ∷ [])) ≡ true
-all_kept_push r [] f all one = rw one
-all_kept_push r (g ∷ gs) f all one =
-    let both = and_parts (flow_kept r g) (all_kept r gs) all in
-    and_from (flow_kept r g) (all_kept r (gs ++ (f ∷ []))) both.0 (all_kept_push r gs f both.1 one)
+  pub all_lines : (fs : List Flow) (end : Cursor) → flows_from 64 rate [] after ≡ Ok (fs, end) → eqb (length end.rest) 0 ≡ true → lines_of text ≡ Ok (record { rate = rate; flows = fs })
+  all_lines fs end h none = rw (rated, h, none)
 
 -- each period of these is some time
 pub periods_some : (r : Rate) (fs : List Flow) → all_kept r fs ≡ true → AllByRecursion (λ f. 0 < f.period) fs

@@ -1,10 +1,10 @@
 -- A result that is no fault, through the checks before it. Assumes nothing.
-use Rattle.std.proofs.Common.{◌≡◌, ℕ, Bool, true, false, cond, ◌⊎◌, Ok, Err, Result, refl, inl, inr, arith}
+use Rattle.std.proofs.Common.{◌≡◌, Bool, true, false, cond, ◌⊎◌, Ok, Err, Result, refl, inl, inr, arith}
 use Rattle.sheet.specs.Reading.{and_then}
 
 -- a fault is no value
 pub no_fault : {X E : Type 0} (e : E) (x : X) → ◌≡◌ {A = Result X E} (Err e) (Ok x) → ⊥
-no_fault e x h = let z : ◌≡◌ {A = ℕ} 0 1 = cc in omega arith
+no_fault e x h = grind arith
 
 -- both steps gave a value
 pub and_then_ok : {X Y E : Type 0} (r : Result X E) (f : X → Result Y E) (y : Y) → and_then r f ≡ Ok y → (x : X) × (r ≡ Ok x) × (f x ≡ Ok y)

@@ -8,6 +8,8 @@ use Rattle.traffic.specs.Packets.{Traffic}
 use Rattle.cycle.specs.Cycle.{cycle_of}
 use Rattle.sheet.specs.declared.lines.Key.{Key}
 use Rattle.sheet.specs.declared.lines.Key.TheVariants as key
+use Rattle.sheet.specs.declared.reader.steps.Frame.{Frame}
+use Rattle.sheet.specs.declared.reader.steps.Timing.{Timing}
 use Rattle.sheet.specs.declared.faults.LineFault.{LineFault}
 use Rattle.sheet.specs.declared.faults.LineFault.TheVariants.{Form, Range, WireTime}
 use Rattle.sheet.specs.declared.faults.SheetFault.{SheetFault}
@@ -77,22 +79,12 @@ abbrev pub timely : ℕ → ℕ → ℕ → Result ℕ LineFault
 timely n wire deadline = cond (nat_le wire deadline) (Ok deadline) (Err (WireTime n))
 
 -- the lines `queue` and `octets` of a flow
-pub record Frame : Type 0 where
-  pub queue : ℕ
-  pub octets : ℕ
-
--- its lines `period` and `deadline`
-pub record Timing : Type 0 where
-  pub period : ℕ
-  pub deadline : ℕ
-
--- these two lines
 abbrev pub frame_lines : Cursor → Result (Frame × Cursor) LineFault
 frame_lines c =
     and_then (number_line key.Queue 1 7 c) (λ q.
     and_then (number_line key.Octets 64 1522 q.1) (λ o. Ok (record { queue = q.0; octets = o.0 }, o.1)))
 
--- these two lines; the wire time may not pass the deadline
+-- its lines `period` and `deadline`; the wire time may not pass the deadline
 abbrev pub timing_lines : ℕ → Cursor → Result (Timing × Cursor) LineFault
 timing_lines wire c =
     and_then (number_line key.Period 1 1000000000 c) (λ t.

@@ -12,41 +12,30 @@ fn decimal(bytes: &[u8]) -> Option<u64>
 {
     let mut n: u64 = 0;
     for b in bytes {
-        if !b.is_ascii_digit() {
-            return None;
-        }
-        n = n * 10 + (*b - b'0') as u64;
+        n = n * 10 + (*b as char).to_digit(10)? as u64;
     }
     Some(n)
 }
 
 // The number that the bytes write, or the first cause why they write none.
+fn read(bytes: &[u8]) -> Result<u64, Cause>
+    ensures { result ≡ read_number bytes.now }
+{
+    if bytes.is_empty() {
+        return Err(Cause::Empty);
+    }
+    if bytes.len() > 10 {
+        return Err(Cause::TooLong);
+    }
+    if bytes.len() > 1 && bytes[0] == b'0' {
+        return Err(Cause::LeadingZero);
+    }
+    decimal(bytes).ok_or(Cause::NoDigit)
+}
+
+// The same for the bytes on a line, whose place goes with the cause.
 pub(crate) fn number(line: u32, bytes: &[u8]) -> Result<u64, DigitFault>
     ensures { result ≡ on_line line (read_number bytes.now) }
 {
-    if bytes.len() == 0 {
-        return Err(DigitFault {
-            line,
-            cause: Cause::Empty,
-        });
-    }
-    if bytes.len() > 10 {
-        return Err(DigitFault {
-            line,
-            cause: Cause::TooLong,
-        });
-    }
-    if bytes.len() > 1 && bytes[0] == b'0' {
-        return Err(DigitFault {
-            line,
-            cause: Cause::LeadingZero,
-        });
-    }
-    match decimal(bytes) {
-        Some(n) => Ok(n),
-        None => Err(DigitFault {
-            line,
-            cause: Cause::NoDigit,
-        }),
-    }
+    read(bytes).map_err(|cause| DigitFault { line, cause })
 }

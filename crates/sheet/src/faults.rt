@@ -40,6 +40,7 @@ pub enum SheetFault {
     Cycle,
 }
 
+// By hand, since a derived `From` does not say which fault a `?` makes.
 impl From<DigitFault> for LineFault {
     ghost from_gives = { λ d r. r ≡ Number d };
 

@@ -29,7 +29,7 @@ pub struct Part<'a> {
     pub bytes: &'a [u8],
 }
 
-// A line by its key, which was cut off.
+// A line by its key, which was cut off. That the kinds stand here, too, is a rule of the project; `with` and `key` tie them to `Key`.
 #[derive(Clone, Copy)]
 pub enum Line<'a> {
     Rate(Part<'a>),
@@ -87,12 +87,7 @@ fn spells(bytes: &[u8], key: Key) -> bool
 fn spelled(bytes: &[u8], keys: &[Key]) -> Option<Key>
     ensures { result ≡ spelled bytes.now keys.now }
 {
-    for key in keys {
-        if spells(bytes, *key) {
-            return Some(*key);
-        }
-    }
-    None
+    keys.iter().find(|key| spells(bytes, **key)).copied()
 }
 
 // The key that the bytes spell.
@@ -144,16 +139,16 @@ impl<'a> Line<'a> {
         ensures { result ≡ line_part self.now }
     {
         match *self {
-            Line::Rate(part) => part,
-            Line::Flow(part) => part,
-            Line::Queue(part) => part,
-            Line::Octets(part) => part,
-            Line::Period(part) => part,
-            Line::Deadline(part) => part,
-            Line::Miss(part) => part,
-            Line::Of(part) => part,
-            Line::Weight(part) => part,
-            Line::Flows(part) => part,
+            Line::Rate(part)
+            | Line::Flow(part)
+            | Line::Queue(part)
+            | Line::Octets(part)
+            | Line::Period(part)
+            | Line::Deadline(part)
+            | Line::Miss(part)
+            | Line::Of(part)
+            | Line::Weight(part)
+            | Line::Flows(part) => part,
         }
     }
 

@@ -1,27 +1,21 @@
 // Sheets that are read and sheets that are refused, by example.
 #![tactic(auto)]
 
+ghost use Rattle.std.specs.Prelude.{◌≡◌, ◌⊎◌, Ok, Err, None, MatchResult};
+ghost use Rattle.sheet.specs.declared.faults.SheetFault.{SheetFault};
+ghost use Rattle.sheet.specs.Reading.{sheet_of};
+ghost use Rattle.sheet.specs.Refusals.{sheet_refusal};
+
 use refusal::Refusal;
 use sheet::refusals::sheet_refusal;
 use sheet::sheet::Sheet;
 use std::alloc::Global;
 
-// What a reading answers: the refusal's code and place, 0 0 where the text is read, 99 0 where memory is short.
-pub fn told(heap: Global, text: &[u8]) -> (u8, u32) {
-    let mut sheet = Sheet::new(heap);
-    match sheet.read(text) {
-        Ok(()) => (0, 0),
-        Err(fault) => match sheet_refusal(fault) {
-            Some(
-                Refusal {
-                    code,
-                    place,
-                    number: _,
-                },
-            ) => (code, place),
-            None => (99, 0),
-        },
-    }
+// Is the text read? Else the refusal that is told, and none where memory is short.
+pub fn told(heap: Global, text: &[u8]) -> Result<(), Option<Refusal>>
+    ensures { MatchResult result (λ _. (t : _) × (sheet_of text.now ≡ Ok t)) (λ r. (r ≡ None) ⊎ ((e : SheetFault) × (sheet_of text.now ≡ Err e) × (r ≡ sheet_refusal e))) }
+{
+    Sheet::new(heap).read(text).map_err(sheet_refusal)
 }
 
 #[cfg(test)]
@@ -33,7 +27,7 @@ mod tests {
     const SAMPLE: &[u8] =
         b"rate=1000\nflow=1\nqueue=7\noctets=64\nperiod=10000\ndeadline=5000\nmiss=1\nof=2\nweight=0\nflows=1\n";
 
-    // a text, and the refusal's code and place
+    // A text, and the code and the place of its refusal.
     struct Case {
         text: &'static [u8],
         code: u8,
@@ -176,12 +170,7 @@ mod tests {
         },
     ];
 
-    const ENDS: [Case; 8] = [
-        Case {
-            text: b"rate=1000\nflow=1\nqueue=7\noctets=64\nperiod=9000\ndeadline=672\nmiss=2\nof=3\nweight=255\nflows=1\n",
-            code: 0,
-            place: 0,
-        },
+    const ENDS: [Case; 6] = [
         Case {
             text: b"rate=1000\nflow=1\nqueue=7\noctets=64\nperiod=9000\ndeadline=672\nmiss=2\nof=3\nweight=255\nflows=2\n",
             code: 4,
@@ -203,11 +192,6 @@ mod tests {
             place: 10,
         },
         Case {
-            text: b"rate=1000\nflow=1\nqueue=7\noctets=64\nperiod=1000000000\ndeadline=672\nmiss=0\nof=1\nweight=0\nflows=1\n",
-            code: 0,
-            place: 0,
-        },
-        Case {
             text: b"rate=1000\nflow=1\nqueue=7\noctets=64\nperiod=500000001\ndeadline=672\nmiss=1\nof=2\nweight=0\nflows=1\n",
             code: 6,
             place: 0,
@@ -219,17 +203,30 @@ mod tests {
         },
     ];
 
-    fn all_told(rt: &impl Abort, heap: Global, cases: &[Case]) {
+    const READ: [&[u8]; 2] = [
+        b"rate=1000\nflow=1\nqueue=7\noctets=64\nperiod=9000\ndeadline=672\nmiss=2\nof=3\nweight=255\nflows=1\n",
+        b"rate=1000\nflow=1\nqueue=7\noctets=64\nperiod=1000000000\ndeadline=672\nmiss=0\nof=1\nweight=0\nflows=1\n",
+    ];
+
+    fn all_refused(rt: &impl Abort, heap: Global, cases: &[Case]) {
         for case in cases {
-            assert_eq!(rt; told(heap, case.text), (case.code, case.place));
+            let refusal = Refusal::at(case.code, case.place);
+            assert_eq!(rt; told(heap, case.text), Err(Some(refusal)));
         }
     }
 
     #[test]
     fn refused_by_their_lines(rt: HostRuntime) {
-        all_told(&rt, rt.alloc(), &HEADS);
-        all_told(&rt, rt.alloc(), &FLOWS);
-        all_told(&rt, rt.alloc(), &ENDS);
+        all_refused(&rt, rt.alloc(), &HEADS);
+        all_refused(&rt, rt.alloc(), &FLOWS);
+        all_refused(&rt, rt.alloc(), &ENDS);
+    }
+
+    #[test]
+    fn read_to_their_ends(rt: HostRuntime) {
+        for text in READ {
+            assert_eq!(rt; told(rt.alloc(), text), Ok(()));
+        }
     }
 
     #[test]
@@ -246,19 +243,24 @@ mod tests {
     #[test]
     fn long_texts(rt: HostRuntime) -> Result<(), Fail> {
         let mut text = vec![in rt.alloc(); 0u8; 61_440]?;
-        assert_eq!(rt; told(rt.alloc(), text.as_slice()), (2, 1));
+        assert_eq!(rt;
+            told(rt.alloc(), text.as_slice()),
+            Err(Some(Refusal::at(2, 1)))
+        );
         text.push(0)?;
-        assert_eq!(rt; told(rt.alloc(), text.as_slice()), (1, 0));
+        assert_eq!(rt;
+            told(rt.alloc(), text.as_slice()),
+            Err(Some(Refusal::at(1, 0)))
+        );
         Ok(())
     }
 
     // A text of `count` flows, and then these bytes.
     fn many(heap: Global, count: u32, end: &str) -> Result<String, Fail> {
         let mut text = String::from_str(heap, "rate=1000\n")?;
-        for i in 0..count {
+        for i in 1..=count {
             let flow = format!(in heap;
-                "flow={}\nqueue=1\noctets=64\nperiod=1000000\ndeadline=1000000\n",
-                i + 1
+                "flow={i}\nqueue=1\noctets=64\nperiod=1000000\ndeadline=1000000\n"
             )?;
             text.push_str(flow.as_str())?;
             text.push_str("miss=0\nof=1\nweight=0\n")?;
@@ -272,19 +274,19 @@ mod tests {
         let heap = rt.alloc();
         assert_eq!(rt;
             told(heap, many(heap, 64, "flows=64\n")?.as_bytes()),
-            (0, 0)
+            Ok(())
         );
         assert_eq!(rt;
             told(heap, many(heap, 64, "flows=63\n")?.as_bytes()),
-            (4, 514)
+            Err(Some(Refusal::at(4, 514)))
         );
         assert_eq!(rt;
             told(heap, many(heap, 64, "flow=65\n")?.as_bytes()),
-            (2, 514)
+            Err(Some(Refusal::at(2, 514)))
         );
         assert_eq!(rt;
             told(heap, many(heap, 65, "flows=65\n")?.as_bytes()),
-            (2, 514)
+            Err(Some(Refusal::at(2, 514)))
         );
         Ok(())
     }

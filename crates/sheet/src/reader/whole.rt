@@ -1,7 +1,6 @@
 // All lines of a sheet's text.
-ghost use Rattle.std.specs.Prelude.{◌≡◌, ◌≤◌, true, ◌⊎◌, [], Ok, Err, vec_len, MatchResult};
+ghost use Rattle.std.specs.Prelude.{◌≡◌, ◌≤◌, ◌⊎◌, [], length, Ok, Err, MatchResult};
 ghost use Rattle.sheet.specs.declared.faults.SheetFault.TheVariants.{Memory};
-ghost use Rattle.sheet.specs.Ranges.{all_kept};
 ghost use Rattle.sheet.specs.Reading.{flows_from, lines_of, in_sheet};
 ghost use Rattle.sheet.specs.Readers.{cursor};
 
@@ -13,8 +12,8 @@ use traffic::rate::Rate;
 impl<'a> Reader<'a> {
     // The flows up to the line that counts them, into an empty vector.
     fn flows(&mut self, rate: Rate, flows: &mut Vec<Flow>) -> Result<(), SheetFault>
-        requires { (flows.old.items ≡ []) × (self.old.line ≡ 2) }
-        ensures { MatchResult result (λ _. (flows_from 64 rate [] (cursor self.old) ≡ Ok (flows.new.items, cursor self.new)) × (vec_len flows.new ≤ 64) × (all_kept rate flows.new.items ≡ true)) (λ e. (e ≡ Memory) ⊎ (in_sheet (flows_from 64 rate [] (cursor self.old)) ≡ Err e)) }
+        requires { flows.old.items ≡ [] }
+        ensures { MatchResult result (λ _. flows_from 64 rate [] (cursor self.old) ≡ Ok (flows.new.items, cursor self.new)) (λ e. (e ≡ Memory) ⊎ (in_sheet (flows_from 64 rate [] (cursor self.old)) ≡ Err e)) }
     {
         while self.heading(flows.len())? {
             let flow = self.flow(rate)?;
@@ -26,8 +25,9 @@ impl<'a> Reader<'a> {
 
 // The rate and, into an empty vector, the flows that the lines of a text say.
 pub(crate) fn read_lines(text: &[u8], flows: &mut Vec<Flow>) -> Result<Rate, SheetFault>
-    requires { flows.old.items ≡ [] }
-    ensures { MatchResult result (λ v. (lines_of text.now ≡ Ok (record { rate = v; flows = flows.new.items })) × (vec_len flows.new ≤ 64) × (all_kept v flows.new.items ≡ true)) (λ e. (e ≡ Memory) ⊎ (in_sheet (lines_of text.now) ≡ Err e)) }
+    requires short { length text.now ≤ 61440 }
+    requires none { flows.old.items ≡ [] }
+    ensures { MatchResult result (λ v. lines_of text.now ≡ Ok (record { rate = v; flows = flows.new.items })) (λ e. (e ≡ Memory) ⊎ (in_sheet (lines_of text.now) ≡ Err e)) }
 {
     let mut reader = Reader {
         rest: text,
@@ -35,7 +35,7 @@ pub(crate) fn read_lines(text: &[u8], flows: &mut Vec<Flow>) -> Result<Rate, She
     };
     let rate = reader.rate()?;
     reader.flows(rate, flows)?;
-    if reader.rest.len() > 0 {
+    if !reader.rest.is_empty() {
         return Err(SheetFault::Line(LineFault::Form(reader.line)));
     }
     Ok(rate)

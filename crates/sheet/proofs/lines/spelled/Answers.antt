@@ -1,32 +1,22 @@
--- One key more.
-use Rattle.std.proofs.Common.{◌≡◌, ◌+◌, true, false, cond, get_or, drop, Some, None}
-use Rattle.std.proofs.lemmas.List.{at_drop_more, at_drop_all}
+-- The first key that the bytes spell.
+use Rattle.std.proofs.Common.{◌≡◌, ℕ, List, [], ◌∷◌, ◌∙◌, refl, rules}
+use borrow.Author.Tests.{tests}
 use Rattle.std.specs.Str.{bytes_eq}
-use Rattle.sheet.specs.declared.lines.Key.TheVariants.{Rate}
-use Rattle.sheet.specs.Lines.{spelled, key_text}
+use Rattle.std.specs.List.{find}
+use Rattle.std.proofs.lemmas.Iterator.{YieldsList-from_slice}
+use Rattle.std.proofs.lemmas.Iterator.Search.{find_from_yields_List}
+use Rattle.sheet.specs.declared.lines.Key.{Key}
+use Rattle.sheet.specs.Lines.{key_text, spelled}
 use Rattle.sheet.proofs.lines.spelled.Goals as goal
 
-pub returns-then-spells : goal.returns-then-spells
-returns-then-spells c =
-    let bs = c.args.bytes.now in
-    let ks = c.args.keys.now in
-    let i = c.loop-key.key-index in
-    let step : spelled bs (drop i ks) ≡ cond (bytes_eq bs (key_text (get_or ks i Rate))) (Some (get_or ks i Rate)) (spelled bs (drop (i + 1) ks)) = at_drop_more (spelled bs) ks i Rate c.loop-key-test.true in
-    let yes : bytes_eq bs (key_text (get_or ks i Rate)) ≡ true = cc in
-    let here : spelled bs (drop i ks) ≡ Some (get_or ks i Rate) = rw yes at step in
-    cc
-
-pub loop-key-preserved : goal.loop-key-preserved
-loop-key-preserved c =
-    let bs = c.args.bytes.now in
-    let ks = c.args.keys.now in
-    let i = c.loop-key.key-index in
-    let step : spelled bs (drop i ks) ≡ cond (bytes_eq bs (key_text (get_or ks i Rate))) (Some (get_or ks i Rate)) (spelled bs (drop (i + 1) ks)) = at_drop_more (spelled bs) ks i Rate c.loop-key-test.true in
-    let no : bytes_eq bs (key_text (get_or ks i Rate)) ≡ false = cc in
-    let here : spelled bs (drop i ks) ≡ spelled bs (drop (i + 1) ks) = rw no at step in
-    cc
+-- one by one
+found : (bs : List ℕ) (ks : List Key) → find (λ k. bytes_eq bs (key_text k)) ks ≡ spelled bs ks
+found bs [] = refl
+found bs (k ∷ ks) = rw (found bs ks)
 
 pub returns : goal.returns
 returns c =
-    let end : spelled c.args.bytes.now (drop c.loop-key.key-index c.args.keys.now) ≡ None = at_drop_all (spelled c.args.bytes.now) c.args.keys.now _ c.loop-key-test.false in
-    cc
+    let bs = c.args.bytes.now in
+    let ks = c.args.keys.now in
+    let first = find_from_yields_List (λ k. bytes_eq bs (key_text k)) _ _ c.find.result c.find.ensures.ran (YieldsList-from_slice ks cc) (λ x b q k. search (rules, tests)) in
+    c.copied.ensures ∙ first ∙ found bs ks
