@@ -3,29 +3,30 @@ ghost use Rattle.std.specs.Prelude.{◌≡◌};
 ghost use Rattle.sheet.specs.Refusals.{line_refusal, sheet_refusal};
 
 use crate::faults::{LineFault, SheetFault};
-use refusal::Refusal;
+use refusal::{Reason, Refusal};
 
 // The refusal of a line.
-fn line_refusal(fault: LineFault) -> Refusal
-    ensures { result ≡ line_refusal fault }
-{
-    let (code, place) = match fault {
-        LineFault::Form(line) => (2, line),
-        LineFault::Number(digits) => (3, digits.line),
-        LineFault::Range(line) => (4, line),
-        LineFault::WireTime(line) => (5, line),
-    };
-    Refusal::at(code, place)
+impl From<LineFault> for Refusal {
+    ghost from_gives = { λ fault r. r ≡ line_refusal fault };
+
+    fn from(fault: LineFault) -> Refusal {
+        match fault {
+            LineFault::Form(line) => Reason::LineForm.at(line),
+            LineFault::Number(digits) => Reason::LineNumber.at(digits.line),
+            LineFault::Range(line) => Reason::LineRange.at(line),
+            LineFault::WireTime(line) => Reason::WireTime.at(line),
+        }
+    }
 }
 
-// The refusal that a fault stands for; want of memory is none.
+// The refusal that a fault stands for. Want of memory is none, so it is no `From`, and a `TryFrom` would need an error of its own.
 pub fn sheet_refusal(fault: SheetFault) -> Option<Refusal>
     ensures { result ≡ sheet_refusal fault }
 {
     match fault {
         SheetFault::Memory => None,
-        SheetFault::Size => Some(Refusal::plain(1)),
-        SheetFault::Line(fault) => Some(line_refusal(fault)),
-        SheetFault::Cycle => Some(Refusal::plain(6)),
+        SheetFault::Size => Some(Reason::LongText.into()),
+        SheetFault::Line(fault) => Some(fault.into()),
+        SheetFault::Cycle => Some(Reason::LongCycle.into()),
     }
 }
