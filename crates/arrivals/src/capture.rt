@@ -27,7 +27,6 @@ pub struct Capture<'a> {
 
 impl<'a> Capture<'a> {
     // A capture of the whole table, which comes in order; refused at the first record that does not rise or is one too many.
-    #[tactic(auto, using(crate::proofs::Capturing::one_record))]
     pub fn new(packets: &'a [Packet]) -> Result<Capture<'a>, CaptureFault>
         ensures { MatchResult result (λ c. Captured packets.now c.left.now) (λ e. FirstFault packets.now e.place) }
     {

@@ -28,8 +28,8 @@ pub fn first_cursors(flows: &[Flow], sort: Sort, end: u64) -> Table<Packet, 64>
     ensures { FirstCursors sort flows.now end result }
 {
     let mut cursors = Table::new();
-    for (i, flow) in flows.iter().enumerate() {
-        if let Some(packet) = next_packet(flow, i as u8 + 1, sort, 1, end) {
+    for (index, flow) in (1..).zip(flows) {
+        if let Some(packet) = next_packet(flow, index, sort, 1, end) {
             let _ = cursors.put(packet);
         }
     }

@@ -2,11 +2,15 @@
 use Rattle.std.proofs.Common.{◌≡◌, ◌+◌, ◌-◌, ◌≤◌, true, false, leb, length, take, drop, sym, refl, ap, ◌∙◌, ⊎_elim, arith}
 use Rattle.std.proofs.lemmas.List.{take_all, drop-drop}
 use Rattle.std.proofs.lemmas.Bool.{and_parts}
+use Rattle.std.proofs.lemmas.Grind.{common_steps}
 use Rattle.arrivals.specs.Sources.{rises}
 use Rattle.arrivals.specs.Captures.{capturable}
-use Rattle.arrivals.proofs.Capturing.{within, one_more, no_rise, too_many, ends}
+use Rattle.arrivals.proofs.Capturing.{one_record, within, one_more, no_rise, too_many, ends}
 use Rattle.arrivals.proofs.capture.Capture.new.Goals as goal
 use Rattle.arrivals.proofs.capture.Capture.new.Goals.{then-place-gt-MOST_PACKETS-via-then-place-gt-MOST_PACKETS, then-place-gt-MOST_PACKETS-via-else-place-gt-MOST_PACKETS+then-not-rises}
+
+pub loop-place-init : goal.loop-place-init
+loop-place-init c = grind (arith, common_steps, one_record)
 
 pub loop-place-preserved : goal.loop-place-preserved
 loop-place-preserved c =
