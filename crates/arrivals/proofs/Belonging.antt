@@ -11,8 +11,9 @@ use Rattle.traffic.specs.Wire.{wire_time}
 use Rattle.traffic.specs.Packets.{arrival, flow_at, no_flow}
 use Rattle.traffic.specs.Orders.{delivered_before}
 use Rattle.sheet.specs.Ranges.{between, flow_ranged, flow_kept, all_kept}
-use Rattle.arrivals.specs.declared.sort.Sort.{Sort}
-use Rattle.arrivals.specs.Sorts.{of_sort, belongs}
+use Rattle.traffic.specs.declared.sort.Sort.{Sort}
+use Rattle.traffic.specs.Sorts.{of_sort}
+use Rattle.arrivals.specs.Sorts.{belongs}
 use Rattle.arrivals.proofs.Turns.{arrives-later}
 
 -- the parts of the test

@@ -1,6 +1,6 @@
 -- A table captured record by record.
-use Rattle.std.proofs.Common.{◌≡◌, ℕ, ◌+◌, ◌-◌, ◌<◌, ◌≤◌, true, false, leb, List, [], ◌∷◌, ◌++◌, length, get_or, take, sym, refl, ap, ◌∙◌, arith}
-use Rattle.std.proofs.lemmas.List.{take_more, length-take-le}
+use Rattle.std.proofs.Common.{◌≡◌, ℕ, ◌+◌, ◌-◌, ◌<◌, ◌≤◌, true, false, leb, List, [], ◌∷◌, ◌++◌, length, get_or, take, drop, sym, refl, ap, ◌∙◌, arith}
+use Rattle.std.proofs.lemmas.List.{take_more, length-take-le, length-drop, get_or-take, get_or-drop}
 use Rattle.std.proofs.lemmas.Bool.{and_parts, and_from, and_left, and_right, le-leb, lt-leb}
 use Rattle.traffic.specs.declared.packet.Packet.{Packet}
 use Rattle.traffic.specs.Orders.{delivered_before}
@@ -8,41 +8,51 @@ use Rattle.arrivals.specs.Sources.{rises, Rises}
 use Rattle.arrivals.specs.Captures.{capturable}
 use Rattle.arrivals.proofs.Rising.{Before, rises_push, falls_push}
 
--- stands for a record past the table's end
-abbrev pub no_packet : Packet
-no_packet = record { flow = 0; number = 0; arrival = 0 }
-
 pub one_record : (ps : List Packet) → capturable (take 1 ps) ≡ true
 one_record [] = refl
 one_record (p ∷ ps) = refl
 
-module _ (ps : List Packet) (i : ℕ) (d : Packet) (some : 1 ≤ i) (within : i < length ps) where
-  -- the records up to the next, the last two in sight
-  two_more : take (i + 1) ps ≡ (take (i - 1) ps ++ (get_or ps (i - 1) d ∷ [])) ++ (get_or ps i d ∷ [])
-  two_more =
-      let at : i ≡ (i - 1) + 1 = omega arith in
-      let front : take i ps ≡ take (i - 1) ps ++ (get_or ps (i - 1) d ∷ []) = ap (λ (k : ℕ). take k ps) at ∙ take_more ps (i - 1) d (omega arith) in
-      take_more ps i d within ∙ ap (λ l. l ++ (get_or ps i d ∷ [])) front
+-- the table up to the record at the place; from the one in front of it on the rest is left
+module _ (ps : List Packet) (place : ℕ) (low : 2 ≤ place) (rest : List Packet) (left : rest ≡ drop (place - 2) ps) (two : 2 ≤ length rest) where
+  pub within : place ≤ length ps
+  within = omega (arith, ap length left, length-drop (place - 2) ps)
 
-  one_more_front : take i ps ≡ take (i - 1) ps ++ (get_or ps (i - 1) d ∷ [])
-  one_more_front =
-      let at : i ≡ (i - 1) + 1 = omega arith in
-      ap (λ (k : ℕ). take k ps) at ∙ take_more ps (i - 1) d (omega arith)
+  long : length (take place ps) ≡ place
+  long = length-take-le place ps within
 
-  pub one_more : i < 4096 → capturable (take i ps) ≡ true → Before (get_or ps (i - 1) d) (get_or ps i d) → capturable (take (i + 1) ps) ≡ true
-  one_more few h b =
-      let p = and_parts (leb (length (take i ps)) 4096) (rises (take i ps)) h in
-      let front : Rises (take (i - 1) ps ++ (get_or ps (i - 1) d ∷ [])) = sym (ap rises one_more_front) ∙ p.1 in
-      let long : length (take (i + 1) ps) ≤ 4096 = omega (arith, length-take-le (i + 1) ps (omega arith)) in
-      and_from (leb (length (take (i + 1) ps)) 4096) (rises (take (i + 1) ps)) (le-leb _ _ long)
-      (ap rises two_more ∙ rises_push (take (i - 1) ps) (get_or ps (i - 1) d) (get_or ps i d) front b)
+  pub too_many : 4096 < place → capturable (take place ps) ≡ false
+  too_many most = and_left (leb (length (take place ps)) 4096) (rises (take place ps)) (lt-leb _ _ (omega (arith, long)))
 
-  pub no_rise : delivered_before (get_or ps (i - 1) d) (get_or ps i d) ≡ false → capturable (take (i + 1) ps) ≡ false
-  no_rise b =
-      and_right (leb (length (take (i + 1) ps)) 4096) (rises (take (i + 1) ps))
-      (ap rises two_more ∙ falls_push (take (i - 1) ps) (get_or ps (i - 1) d) (get_or ps i d) b)
+  -- the window shows both
+  module _ (window : List Packet) (shows : window ≡ take 2 rest) (d : Packet) where
+    reads : (k : ℕ) → k < 2 → get_or ps (place - 2 + k) d ≡ get_or window k d
+    reads k less = sym (ap (λ l. get_or l k d) (shows ∙ ap (take 2) left) ∙ get_or-take 2 (drop (place - 2) ps) k d less ∙ get_or-drop (place - 2) ps k d)
 
-  pub too_many : 4096 ≤ i → capturable (take (i + 1) ps) ≡ false
-  too_many most =
-      let long : 4096 < length (take (i + 1) ps) = omega (arith, length-take-le (i + 1) ps (omega arith)) in
-      and_left (leb (length (take (i + 1) ps)) 4096) (rises (take (i + 1) ps)) (lt-leb _ _ long)
+    front_taken : take (place - 1) ps ≡ take (place - 2) ps ++ (get_or window 0 d ∷ [])
+    front_taken =
+        let at : place - 1 ≡ place - 2 + 1 = omega arith in
+        let zero : place - 2 ≡ place - 2 + 0 = omega arith in
+        ap (λ k. take k ps) at ∙ take_more ps (place - 2) d (omega (arith, within)) ∙ ap (λ x. take (place - 2) ps ++ (x ∷ [])) (ap (λ k. get_or ps k d) zero ∙ reads 0 (omega arith))
+
+    both_taken : take place ps ≡ (take (place - 2) ps ++ (get_or window 0 d ∷ [])) ++ (get_or window 1 d ∷ [])
+    both_taken =
+        let at : place ≡ (place - 2 + 1) + 1 = omega arith in
+        let front : place - 2 + 1 ≡ place - 1 = omega arith in
+        ap (λ k. take k ps) at ∙ take_more ps (place - 2 + 1) d (omega (arith, within))
+        ∙ ap (λ x. take (place - 2 + 1) ps ++ (x ∷ [])) (reads 1 (omega arith)) ∙ ap (λ l. l ++ (get_or window 1 d ∷ [])) (ap (λ k. take k ps) front ∙ front_taken)
+
+    pub one_more : place ≤ 4096 → capturable (take (place - 1) ps) ≡ true → Before (get_or window 0 d) (get_or window 1 d) → capturable (take place ps) ≡ true
+    one_more few h b =
+        let p = and_parts (leb (length (take (place - 1) ps)) 4096) (rises (take (place - 1) ps)) h in
+        let front : Rises (take (place - 2) ps ++ (get_or window 0 d ∷ [])) = sym (ap rises front_taken) ∙ p.1 in
+        and_from (leb (length (take place ps)) 4096) (rises (take place ps)) (le-leb _ _ (omega (arith, long)))
+        (ap rises both_taken ∙ rises_push (take (place - 2) ps) (get_or window 0 d) (get_or window 1 d) front b)
+
+    pub no_rise : delivered_before (get_or window 0 d) (get_or window 1 d) ≡ false → capturable (take place ps) ≡ false
+    no_rise b =
+        and_right (leb (length (take place ps)) 4096) (rises (take place ps))
+        (ap rises both_taken ∙ falls_push (take (place - 2) ps) (get_or window 0 d) (get_or window 1 d) b)
+
+-- where fewer than two records are left from there on, the table ends in front of the place
+pub ends : (ps rest : List Packet) (place : ℕ) → 2 ≤ place → rest ≡ drop (place - 2) ps → length rest < 2 → length ps ≤ place - 1
+ends ps rest place low left few = omega (arith, ap length left, length-drop (place - 2) ps)

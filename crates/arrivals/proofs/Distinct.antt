@@ -8,10 +8,11 @@ use Rattle.traffic.specs.declared.flow.Flow.{Flow}
 use Rattle.traffic.specs.declared.packet.Packet.{Packet}
 use Rattle.traffic.specs.Packets.{arrival, flow_at}
 use Rattle.traffic.specs.Orders.{PacketsDiffer}
-use Rattle.arrivals.specs.declared.sort.Sort.{Sort}
-use Rattle.arrivals.specs.declared.sort.Sort.TheVariants.{Mandatory, Optional}
+use Rattle.traffic.specs.declared.sort.Sort.{Sort}
+use Rattle.traffic.specs.declared.sort.Sort.TheVariants.{Mandatory, Optional}
 use Rattle.arrivals.specs.Sources.{Rises, same_packet, times}
-use Rattle.arrivals.specs.Sorts.{of_sort, other_sort}
+use Rattle.traffic.specs.Sorts.{of_sort}
+use Rattle.arrivals.specs.Sorts.{other_sort}
 use Rattle.arrivals.proofs.Rising.{Before, rises_parts}
 use Rattle.arrivals.proofs.Belonging.{OnSheet, Periodic, period_some}
 

@@ -9,10 +9,11 @@ use Rattle.traffic.specs.declared.flow.Flow.{Flow}
 use Rattle.traffic.specs.declared.packet.Packet.{Packet}
 use Rattle.traffic.specs.Packets.{arrival, flow_at, no_flow}
 use Rattle.traffic.specs.Orders.{PacketsDiffer}
-use Rattle.arrivals.specs.declared.sort.Sort.{Sort}
+use Rattle.traffic.specs.declared.sort.Sort.{Sort}
 use Rattle.arrivals.specs.Sources.{Rises}
 use Rattle.arrivals.specs.Merges.{Apart}
-use Rattle.arrivals.specs.Sorts.{of_sort, other_sort, comes_at, packet_at, arriving, calendar, belongs, Exactly}
+use Rattle.traffic.specs.Sorts.{of_sort}
+use Rattle.arrivals.specs.Sorts.{other_sort, comes_at, packet_at, arriving, calendar, belongs, Exactly}
 use Rattle.arrivals.proofs.Rising.{Before, rises_from, rises-append}
 use Rattle.arrivals.proofs.Distinct.{rises_once, sorts_differ}
 use Rattle.arrivals.proofs.Belonging.{on_sheet, on_sheet_belongs, Periodic, flow_at_place, period_some}

@@ -1,5 +1,4 @@
 -- Lemmas of the sources.
-pub mod Fronts
 pub mod Rising
 pub mod Capturing
 pub mod Merging

@@ -1,18 +1,13 @@
 -- The packets of one sort, and the calendar of a sort.
-use Rattle.std.specs.Prelude.{◌≡◌, ℕ, zero, suc, ◌+◌, ◌/◌, ◌%◌, ◌≤◌, Bool, true, cond, not, ◌&&◌, List, [], ◌∷◌, ◌++◌, length, ◌==◌, nat_le, nat_lt}
+use Rattle.std.specs.Prelude.{◌≡◌, ℕ, zero, suc, ◌+◌, ◌/◌, ◌%◌, ◌≤◌, Bool, true, cond, ◌&&◌, List, [], ◌∷◌, ◌++◌, length, ◌==◌, nat_le, nat_lt}
 use Rattle.std.specs.List.{ContainsAt}
 use Rattle.traffic.specs.declared.flow.Flow.{Flow}
 use Rattle.traffic.specs.declared.packet.Packet.{Packet}
-use Rattle.traffic.specs.Pattern.{mandatory_at}
 use Rattle.traffic.specs.Packets.{arrival, flow_at}
-use Rattle.arrivals.specs.declared.sort.Sort.{Sort}
-use Rattle.arrivals.specs.declared.sort.Sort.TheVariants.{Mandatory, Optional}
+use Rattle.traffic.specs.declared.sort.Sort.{Sort}
+use Rattle.traffic.specs.declared.sort.Sort.TheVariants.{Mandatory, Optional}
+use Rattle.traffic.specs.Sorts.{of_sort}
 use Rattle.arrivals.specs.Sources.{Rises, times}
-
--- packet j of the flow is of the sort
-abbrev pub of_sort : Sort → Flow → ℕ → Bool
-of_sort Mandatory f j = mandatory_at f j
-of_sort Optional f j = not (mandatory_at f j)
 
 -- the sort of the other packets
 abbrev pub other_sort : Sort → Sort

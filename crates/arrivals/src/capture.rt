@@ -1,5 +1,5 @@
 // A capture: a source over a caller's table of packets.
-ghost use Rattle.std.specs.Prelude.{◌≡◌, drop, MatchResult};
+ghost use Rattle.std.specs.Prelude.{◌≡◌, MatchResult};
 ghost use Rattle.traffic.specs.declared.packet.Packet.{Packet};
 ghost use Rattle.traffic.specs.Orders.{delivered_before};
 ghost use Rattle.arrivals.specs.Captures.{Captured, FirstFault};
@@ -19,47 +19,38 @@ fn rises(front: &Packet, next: &Packet) -> bool
     delivered_before(front, next)
 }
 
-// The table's packets from a place on.
+// The packets of the table that were not taken yet.
 #[derive(Drop)]
 pub struct Capture<'a> {
-    packets: &'a [Packet],
-    at: usize,
+    left: &'a [Packet],
 }
 
 impl<'a> Capture<'a> {
     // A capture of the whole table, which comes in order; refused at the first record that does not rise or is one too many.
     pub fn new(packets: &'a [Packet]) -> Result<Capture<'a>, CaptureFault>
-        ensures { MatchResult result (λ c. Captured packets.now (drop c.at c.packets.now)) (λ e. FirstFault packets.now e.place) }
+        ensures { MatchResult result (λ c. Captured packets.now c.left.now) (λ e. FirstFault packets.now e.place) }
     {
-        for i in 1..packets.len() {
-            if i >= MOST_PACKETS || !rises(&packets[i - 1], &packets[i]) {
+        for (place, [front, next]) in (2..).zip(packets.array_windows::<2>()) {
+            if place > MOST_PACKETS || !rises(front, next) {
                 return Err(CaptureFault {
-                    place: i as u32 + 1,
+                    place: place as u32,
                 });
             }
         }
-        Ok(Capture { packets, at: 0 })
+        Ok(Capture { left: packets })
     }
 }
 
 impl<'a> ArrivalSource for Capture<'a> {
-    ghost arrivals = { λ s. drop s.at s.packets.now };
+    ghost arrivals = { λ s. s.left.now };
 
     fn head(&self) -> Option<Packet> {
-        if self.at < self.packets.len() {
-            Some(self.packets[self.at])
-        } else {
-            None
-        }
+        self.left.first().copied()
     }
 
     fn take(&mut self) -> Option<Packet> {
-        if self.at < self.packets.len() {
-            let packet = self.packets[self.at];
-            self.at += 1;
-            Some(packet)
-        } else {
-            None
-        }
+        let (packet, left) = self.left.split_first()?;
+        self.left = left;
+        Some(*packet)
     }
 }

@@ -2,7 +2,7 @@
 ghost use Rattle.std.specs.Prelude.{◌≡◌};
 ghost use Rattle.arrivals.specs.Faults.{capture_refusal, calendar_refusal};
 
-use refusal::Refusal;
+use refusal::{Reason, Refusal};
 
 // The record at this place of a capture, counted from 1, does not rise in delivery order or is one too many.
 #[derive(Clone, Copy, PartialEq, Eq, Debug)]
@@ -10,12 +10,12 @@ pub struct CaptureFault {
     pub place: u32,
 }
 
-impl CaptureFault {
-    // Refusal 17 at the record's place.
-    pub fn refusal(self) -> Refusal
-        ensures { result ≡ capture_refusal self }
-    {
-        Refusal::at(17, self.place)
+// Refusal 17 at the record's place.
+impl From<CaptureFault> for Refusal {
+    ghost from_gives = { λ fault r. r ≡ capture_refusal fault };
+
+    fn from(fault: CaptureFault) -> Refusal {
+        Reason::CaptureRecord.at(fault.place)
     }
 }
 
@@ -26,14 +26,14 @@ pub enum CalendarFault {
     CyclesOutOfRange,
 }
 
-impl CalendarFault {
-    // Refusal 7 or 16, with no place and no number.
-    pub fn refusal(self) -> Refusal
-        ensures { result ≡ calendar_refusal self }
-    {
-        match self {
-            CalendarFault::EmptySheet => Refusal::plain(7),
-            CalendarFault::CyclesOutOfRange => Refusal::plain(16),
-        }
+// Refusal 7 or 16, with no place and no number.
+impl From<CalendarFault> for Refusal {
+    ghost from_gives = { λ fault r. r ≡ calendar_refusal fault };
+
+    fn from(fault: CalendarFault) -> Refusal {
+        Refusal::from(match fault {
+            CalendarFault::EmptySheet => Reason::EmptySheet,
+            CalendarFault::CyclesOutOfRange => Reason::Cycles,
+        })
     }
 }

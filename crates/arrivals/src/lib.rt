@@ -8,4 +8,3 @@ pub mod faults;
 pub mod merge;
 pub mod sort;
 pub mod source;
-mod upcoming;

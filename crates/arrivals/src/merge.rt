@@ -38,6 +38,7 @@ impl<P: ArrivalSource, Q: ArrivalSource> Merge<P, Q> {
 impl<P: ArrivalSource, Q: ArrivalSource> ArrivalSource for Merge<P, Q> {
     ghost arrivals = { λ s. merged (P.ArrivalSource.arrivals s.first) (Q.ArrivalSource.arrivals s.second) };
 
+    // Asks each source once: a choice shared with `take` would ask the chosen one again, at each level of merges.
     fn head(&self) -> Option<Packet> {
         let a = self.first.head();
         let b = self.second.head();

@@ -1,8 +1,2 @@
 // The two sorts of packets.
-
-// Mandatory packets, or optional ones.
-#[derive(Clone, Copy, PartialEq, Eq, Debug)]
-pub enum Sort {
-    Mandatory,
-    Optional,
-}
+pub use traffic::sort::Sort;

@@ -22,11 +22,12 @@ mod tests {
     use arrivals::calendar::Calendar;
     use arrivals::calendar::both::both_sorts;
     use arrivals::capture::Capture;
-    use arrivals::faults::CalendarFault;
+    use arrivals::faults::{CalendarFault, CaptureFault};
     use arrivals::merge::Merge;
     use arrivals::sort::Sort;
     use arrivals::source::ArrivalSource;
     use sheet::sheet::Sheet;
+    use std::array;
     use std::test::Fail;
 
     // Every second packet of flow 1 is optional; its period is half that of flow 2.
@@ -39,12 +40,16 @@ mod tests {
         sheet.read(SHEET)?;
         let mut both = both_sorts(&sheet, 2)?;
         assert_eq!(rt; both.head(), Some(packet(1, 1, 0)));
-        assert_eq!(rt; both.take(), Some(packet(1, 1, 0)));
-        assert_eq!(rt; both.take(), Some(packet(2, 1, 0)));
-        assert_eq!(rt; both.take(), Some(packet(1, 2, 10_000)));
-        assert_eq!(rt; both.take(), Some(packet(1, 3, 20_000)));
-        assert_eq!(rt; both.take(), Some(packet(2, 2, 20_000)));
-        assert_eq!(rt; both.take(), Some(packet(1, 4, 30_000)));
+        for next in [
+            packet(1, 1, 0),
+            packet(2, 1, 0),
+            packet(1, 2, 10_000),
+            packet(1, 3, 20_000),
+            packet(2, 2, 20_000),
+            packet(1, 4, 30_000),
+        ] {
+            assert_eq!(rt; both.take(), Some(next));
+        }
         assert_eq!(rt; both.head(), None);
         assert_eq!(rt; both.take(), None);
         Ok(())
@@ -81,18 +86,13 @@ mod tests {
 
     #[test]
     fn a_capture_of_4096_and_one_more(rt: HostRuntime) -> Result<(), Fail> {
-        let mut packets = [packet(1, 1, 0); 4097];
-        for i in 0..4097 {
-            packets[i].arrival = i as u64;
-        }
-        assert!(rt; Capture::new(&packets[0..4096]).is_ok());
-        match Capture::new(&packets) {
-            Ok(_) => Err(Fail::new("too many are captured")),
-            Err(fault) => {
-                assert_eq!(rt; fault.place, 4097);
-                Ok(())
-            },
-        }
+        let packets: [Packet; 4097] = array::from_fn(|i| packet(1, 1, i as u64));
+        assert!(rt; Capture::new(&packets[..4096]).is_ok());
+        assert_eq!(rt;
+            Capture::new(&packets).err(),
+            Some(CaptureFault { place: 4097 })
+        );
+        Ok(())
     }
 
     #[test]
@@ -103,16 +103,14 @@ mod tests {
             packet(2, 1, u64::MAX),
             packet(2, 1, u64::MAX),
         ];
-        let mut capture = Capture::new(&packets[0..3])?;
+        let mut capture = Capture::new(&packets[..3])?;
         assert_eq!(rt; capture.take(), Some(packet(1, 1, u64::MAX - 1)));
         assert_eq!(rt; capture.head(), Some(packet(1, 2, u64::MAX)));
-        match Capture::new(&packets) {
-            Ok(_) => Err(Fail::new("equals are captured")),
-            Err(fault) => {
-                assert_eq!(rt; fault.place, 4);
-                Ok(())
-            },
-        }
+        assert_eq!(rt;
+            Capture::new(&packets).err(),
+            Some(CaptureFault { place: 4 })
+        );
+        Ok(())
     }
 
     #[test]
@@ -122,12 +120,16 @@ mod tests {
         let third = [packet(1, 30, 5), packet(1, 31, 6)];
         let inner = Merge::new(Capture::new(&first)?, Capture::new(&second)?);
         let mut all = Merge::new(inner, Capture::new(&third)?);
-        assert_eq!(rt; all.take(), Some(packet(1, 10, 5)));
-        assert_eq!(rt; all.take(), Some(packet(1, 20, 5)));
-        assert_eq!(rt; all.take(), Some(packet(1, 30, 5)));
-        assert_eq!(rt; all.take(), Some(packet(2, 21, 5)));
-        assert_eq!(rt; all.take(), Some(packet(1, 31, 6)));
-        assert_eq!(rt; all.take(), Some(packet(1, 11, 9)));
+        for next in [
+            packet(1, 10, 5),
+            packet(1, 20, 5),
+            packet(1, 30, 5),
+            packet(2, 21, 5),
+            packet(1, 31, 6),
+            packet(1, 11, 9),
+        ] {
+            assert_eq!(rt; all.take(), Some(next));
+        }
         assert_eq!(rt; all.take(), None);
         Ok(())
     }

@@ -7,8 +7,8 @@ ghost use Rattle.arrivals.specs.Calendars.{calendar_fault, to_come, BothMade};
 use super::Calendar;
 use crate::faults::CalendarFault;
 use crate::merge::Merge;
-use crate::sort::Sort;
 use sheet::sheet::Sheet;
+use traffic::sort::Sort;
 
 // All packets of the sheet for so many cycles, in order: the calendars of its two sorts merged.
 pub fn both_sorts<'a>(

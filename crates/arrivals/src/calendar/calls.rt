@@ -2,17 +2,16 @@
 ghost use Rattle.std.specs.Prelude.{◌≡◌, ◌*◌, Some, MatchResult};
 ghost use Rattle.traffic.specs.declared.packet.Packet.{Packet};
 ghost use Rattle.sheet.specs.Contents.{traffic_of};
-ghost use Rattle.arrivals.specs.Cursors.{cursor_list, from_cursors};
+ghost use Rattle.arrivals.specs.Cursors.{from_cursors};
 ghost use Rattle.arrivals.specs.Calendars.{calendar_fault, to_come, CalendarMade};
 
 use super::Calendar;
-use crate::cursors::first_cursors;
+use crate::cursors::{first_cursors, next_packet};
 use crate::faults::CalendarFault;
-use crate::sort::Sort;
 use crate::source::ArrivalSource;
-use crate::upcoming::next_packet;
 use sheet::sheet::Sheet;
 use traffic::packet::Packet;
+use traffic::sort::Sort;
 
 // The most cycles of a calendar.
 pub const MOST_CYCLES: u64 = 4_000_000_000;
@@ -26,7 +25,7 @@ impl<'a> Calendar<'a> {
         if flows.is_empty() {
             return Err(CalendarFault::EmptySheet);
         }
-        if cycles == 0 || cycles > MOST_CYCLES {
+        if !(1..=MOST_CYCLES).contains(&cycles) {
             return Err(CalendarFault::CyclesOutOfRange);
         }
         let end = cycles * sheet.cycle();
@@ -41,18 +40,19 @@ impl<'a> Calendar<'a> {
 }
 
 impl<'a> ArrivalSource for Calendar<'a> {
-    ghost arrivals = { λ c. from_cursors c.sort (traffic_of c.sheet.now).flows c.end (cursor_list c.cursors) };
+    ghost arrivals = { λ c. from_cursors c.sort (traffic_of c.sheet.now).flows c.end c.cursors };
 
     fn head(&self) -> Option<Packet> {
-        self.cursors.first()
+        self.cursors.records().first().copied()
     }
 
     fn take(&mut self) -> Option<Packet> {
-        let packet = self.cursors.first()?;
-        let flows = self.sheet.flows();
-        let flow = flows[packet.flow as usize - 1];
-        let next = next_packet(&flow, packet.flow, self.sort, packet.number + 1, self.end);
-        self.cursors.replace_first(next);
+        let packet = self.cursors.take_first()?;
+        let flow = self.sheet.flow(packet.flow)?;
+        let from = packet.number + 1;
+        if let Some(next) = next_packet(&flow, packet.flow, self.sort, from, self.end) {
+            let _ = self.cursors.put(next);
+        }
         Some(packet)
     }
 }

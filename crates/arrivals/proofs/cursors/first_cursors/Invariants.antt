@@ -1,8 +1,10 @@
 -- The cursors of the flows so far.
-use Rattle.std.proofs.Common.{◌≤◌}
-use Rattle.arrivals.specs.Cursors.{cursor_list}
+use Rattle.std.specs.Slice.Iter.{iter_rest}
 use Rattle.arrivals.proofs.Beginning.{Begun}
 use Rattle.arrivals.proofs.cursors.first_cursors.Given as goal
 
-abbrev pub invariant-loop-i : goal.invariant-loop-i
-invariant-loop-i l = Begun l.sort l.flows l.end l.i (cursor_list l.cursors) × (l.cursors.count ≤ l.i)
+abbrev pub invariant-loop-index : goal.invariant-loop-index
+invariant-loop-index l =
+    (goal.iterator-loop-index).can_next l.index-iterator ×
+    (goal.iterator-loop-index).is_finite l.index-iterator ×
+    Begun l.sort l.flows l.end l.index-iterator.a.start (iter_rest l.index-iterator.b) l.cursors

@@ -1,7 +1,12 @@
--- The records so far can be captured.
-use Rattle.std.proofs.Common.{◌≡◌, ◌≤◌, true, take}
+-- The records in front of the place can be captured, and the windows from the last of them on are left.
+use Rattle.std.proofs.Common.{◌≡◌, ◌-◌, ◌≤◌, true, take, drop}
 use Rattle.arrivals.specs.Captures.{capturable}
 use Rattle.arrivals.proofs.capture.Capture.new.Given as goal
 
-abbrev pub invariant-loop-i : goal.invariant-loop-i
-invariant-loop-i l = (capturable (take l.i l.packets) ≡ true) × (1 ≤ l.i) × (l.i ≤ 4096)
+abbrev pub invariant-loop-place : goal.invariant-loop-place
+invariant-loop-place l =
+    (goal.iterator-loop-place).can_next l.place-iterator ×
+    (goal.iterator-loop-place).is_finite l.place-iterator ×
+    (2 ≤ l.place-iterator.a.start) × (l.place-iterator.a.start ≤ 4097) ×
+    (l.place-iterator.b.parts.rest.now ≡ drop (l.place-iterator.a.start - 2) l.packets) ×
+    (capturable (take (l.place-iterator.a.start - 1) l.packets) ≡ true)
