@@ -1,25 +1,23 @@
 -- A port just made, and the three steps of an instant put together. Assumes nothing.
-use Rattle.std.proofs.Common.{◌≡◌, ℕ, suc, ◌+◌, ◌%◌, ◌≤◌, ◌&&◌, eqb, List, [], ◌∷◌, map, length, None, Option, sym, ap, ◌∙◌, subst, add-one}
+use Rattle.std.proofs.Common.{◌≡◌, ℕ, suc, ◌+◌, ◌%◌, ◌≤◌, eqb, List, [], ◌∷◌, map, length, None, Option, sym, ap, ◌∙◌, subst, add-one}
 use Rattle.traffic.specs.declared.packet.Packet.{Packet}
-use Rattle.traffic.specs.Packets.{Traffic}
+use Rattle.traffic.specs.declared.packet.Job.{Job}
+use Rattle.traffic.specs.Packets.{Traffic, packet_of}
 use Rattle.gates.specs.declared.entry.Entry.{Entry}
 use Rattle.gates.specs.Open.{open_at, stays_open}
-use Rattle.table.specs.Order.{in_order}
 use Rattle.sending.specs.Sheet.{cycle, wire}
 use Rattle.sending.specs.Port.{Turn, send}
 use Rattle.sending.specs.Calls.{Port, Taken, decide, new_port, no_counts, now_in_force, still_pending, switch, taken, turn, with_start}
-use Rattle.port.specs.declared.waiting.Waiting.{Waiting}
 use Rattle.port.specs.declared.station.Station.{Station}
-use Rattle.port.specs.Waiting.{waits_first, packet_of, queue_list}
 use Rattle.port.specs.Counting.{counts_of}
-use Rattle.port.specs.Lanes.{queue_at, all_as_sheet, Lined}
+use Rattle.port.specs.Lanes.{queue_at, lined, Lined}
 use Rattle.port.specs.Station.{state_of, taking, third_step, Room, TookAll, Sent}
 use Rattle.port.specs.Life.{port_of, instant, Ample}
 
 -- nothing waits
-module _ (s : Traffic) (x : Station) (none : (q : ℕ) → queue_list (queue_at x.lanes q) ≡ []) where
+module _ (s : Traffic) (x : Station) (none : (q : ℕ) → queue_at x.lanes q ≡ []) where
   pub new-lined : Lined s x.lanes
-  new-lined q = ap (λ (ws : List Waiting). in_order waits_first ws && all_as_sheet s ws) (none q)
+  new-lined q = ap (λ (jobs : List Job). lined s jobs) (none q)
 
   pub new_is : (es : List Entry) → (x.free ≡ 0) × (x.last ≡ None) × (counts_of x.counts ≡ no_counts) → port_of 0 es None x ≡ new_port es
   new_is es h =

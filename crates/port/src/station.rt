@@ -1,7 +1,6 @@
 // What a port has at hand.
 ghost use Rattle.std.specs.Prelude.{◌≡◌, ℕ, [], None};
 ghost use Rattle.sending.specs.Calls.{no_counts};
-ghost use Rattle.port.specs.Waiting.{queue_list};
 ghost use Rattle.port.specs.Counting.{counts_of};
 ghost use Rattle.port.specs.Lanes.{queue_at};
 
@@ -15,7 +14,7 @@ mod taking;
 
 // What waits, up to when the wire is taken, the packet taken last, and the counts.
 #[derive(Drop)]
-pub struct Station {
+pub(crate) struct Station {
     lanes: Lanes,
     free: u64,
     last: Option<Packet>,
@@ -24,12 +23,12 @@ pub struct Station {
 
 impl Station {
     // Nothing waits, the wire is free, nothing was taken or counted.
-    pub fn new() -> Station
-        ensures lanes { (q : ℕ) → queue_list (queue_at result.lanes q) ≡ [] }
+    pub(crate) fn new() -> Station
+        ensures lanes { (q : ℕ) → queue_at result.lanes q ≡ [] }
         ensures parts { (result.free ≡ 0) × (result.last ≡ None) × (counts_of result.counts ≡ no_counts) }
     {
         Station {
-            lanes: Lanes::empty(),
+            lanes: Lanes::new(),
             free: 0,
             last: None,
             counts: Counts::none(),
@@ -37,7 +36,7 @@ impl Station {
     }
 
     // The counts so far.
-    pub fn counts(&self) -> Counts
+    pub(crate) fn counts(&self) -> Counts
         ensures { result ≡ self.now.counts }
     {
         self.counts

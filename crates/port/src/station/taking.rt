@@ -8,7 +8,6 @@ ghost use Rattle.port.specs.Station.{state_of, arrived_head, behind_arrived, Too
 
 use super::Station;
 use crate::membership::{is_admitted, is_after, job_on_sheet};
-use crate::waiting::Waiting;
 use arrivals::source::ArrivalSource;
 use gates::entry::Entry;
 use sheet::sheet::Sheet;
@@ -19,15 +18,10 @@ fn next_arrived<S: ArrivalSource>(source: &mut S, at: u64) -> Option<Packet>
     ensures value { result ≡ arrived_head at (S.arrivals source.old) }
     ensures after { S.arrivals source.new ≡ behind_arrived at (S.arrivals source.old) }
 {
-    match source.head() {
-        Some(packet) => {
-            if packet.arrival <= at {
-                source.take()
-            } else {
-                None
-            }
-        }
-        None => None,
+    if source.head()?.arrival <= at {
+        source.take()
+    } else {
+        None
     }
 }
 
@@ -37,16 +31,9 @@ impl Station {
         requires { packet.now.arrival ≤ 4000000000000000000 }
         ensures { result ≡ (if welcome (traffic_of sheet.now) at self.now.last (state_of self.now) packet.now then Some (job_of (traffic_of sheet.now) packet.now) else None) }
     {
-        let Some(job) = job_on_sheet(sheet, packet) else {
-            return None;
-        };
-        if packet.arrival < at {
-            return None;
-        }
-        if !is_after(self.last, packet) {
-            return None;
-        }
-        if self.lanes.holds(job.queue, packet) {
+        let job = job_on_sheet(sheet, packet)?;
+        let late = packet.arrival < at;
+        if late || !is_after(self.last, packet) || self.lanes.holds(job.queue, packet) {
             return None;
         }
         Some(job)
@@ -62,7 +49,7 @@ impl Station {
         match self.welcome(sheet, at, &packet) {
             Some(job) => {
                 if is_admitted(sheet, list, &packet) {
-                    self.lanes.join(Waiting { job });
+                    self.lanes.join(job);
                 } else {
                     self.counts.add_unadmitted();
                 }
@@ -73,7 +60,7 @@ impl Station {
     }
 
     // Takes every packet that has arrived by this instant.
-    pub fn take_arrived<S: ArrivalSource>(
+    pub(crate) fn take_arrived<S: ArrivalSource>(
         &mut self,
         sheet: &Sheet,
         list: &[Entry],
