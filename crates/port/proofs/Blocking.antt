@@ -11,8 +11,8 @@ use Rattle.sending.specs.Sheet.{cycle}
 use Rattle.sending.specs.Port.{idle}
 use Rattle.port.specs.declared.lanes.Lanes.{Lanes}
 use Rattle.port.specs.declared.station.Station.{Station}
-use Rattle.port.specs.Lanes.{queue_at, nothing_waits, Lined}
-use Rattle.port.specs.Station.{state_of, third_step}
+use Rattle.port.specs.Lanes.{queue_at, nothing_waits}
+use Rattle.port.specs.Station.{state_of, sheet_of, third_step}
 use Rattle.port.specs.Quiet.{Unsent, steady, fitting, can_start}
 use Rattle.port.proofs.Outgo.{shut, vacant, unfitting, stuck}
 use Rattle.port.proofs.Passing.{offset_later}
@@ -53,9 +53,12 @@ none_wait (x ∷ xs) h zero = none_left x (and_parts (eqb (length x) 0) _ h).0
     none_left (y ∷ ys) e = let z = eqb-true (length (y ∷ ys)) 0 e in absurd (omega arith)
 none_wait (x ∷ xs) h (suc q) = none_wait xs (and_parts (eqb (length x) 0) _ h).1 q
 
-pub none_starts : (s : Traffic) (es : List Entry) (x : Station) → nothing_waits x.lanes ≡ true → (t : ℕ) → Unsent s es (state_of x) t
-none_starts s es x none t = go (open_at es (t % cycle s)) refl
+pub none_starts : (es : List Entry) (x : Station) → nothing_waits x.lanes ≡ true → (t : ℕ) → Unsent (sheet_of x) es (state_of x) t
+none_starts es x none t = go (open_at es (t % cycle s)) refl
   where
+    s : Traffic
+    s = sheet_of x
+
     go : (g : Option ℕ) → open_at es (t % cycle s) ≡ g → third_step s es t (t % cycle s) (state_of x) ≡ idle (state_of x)
     go None e = shut s es t (t % cycle s) (state_of x) e
     go (Some q) e = vacant s es t (t % cycle s) (state_of x) q e (ap (map packet_of) (none_wait x.lanes.queues none q))
@@ -75,10 +78,13 @@ still_stuck l es o k h c = ap (can_start l es (o + k)) same ∙ at_gate (open_at
     at_gate None c = refl
     at_gate (Some q) c = at_head q (slice_get (queue_at l q) 0) c
 
-module _ (s : Traffic) (es : List Entry) (x : Station) (lines : Lined s x.lanes) where
+module _ (es : List Entry) (x : Station) where
+  abbrev s : Traffic
+  s = sheet_of x
+
   -- up to the end of the entry, or of the cycle
   pub blocked_on : (clock i : ℕ) → can_start x.lanes es (clock % cycle s) (open_at es (clock % cycle s)) ≡ None → clock ≤ i → i < clock + steady es (clock % cycle s) → i < clock + (cycle s - clock % cycle s) → Unsent s es (state_of x) i
   blocked_on clock i f low a b =
       let at : i ≡ clock + (i - clock) = omega arith in
       let later : i % cycle s ≡ clock % cycle s + (i - clock) = ap (λ (n : ℕ). n % cycle s) at ∙ offset_later clock (i - clock) (cycle s) (omega arith) in
-      ap (λ (o : ℕ). third_step s es i o (state_of x)) later ∙ stuck s es i (clock % cycle s + (i - clock)) x lines (still_stuck x.lanes es (clock % cycle s) (i - clock) (omega arith) f)
+      ap (λ (o : ℕ). third_step s es i o (state_of x)) later ∙ stuck es i (clock % cycle s + (i - clock)) x (still_stuck x.lanes es (clock % cycle s) (i - clock) (omega arith) f)

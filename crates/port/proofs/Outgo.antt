@@ -1,5 +1,5 @@
 -- The third step, case by case. Assumes nothing.
-use Rattle.std.proofs.Common.{◌≡◌, ℕ, zero, suc, ◌+◌, ◌^◌, ◌<◌, ◌≤◌, Bool, true, false, cond, eqb, leb, List, [], ◌∷◌, map, drop, Some, None, Option, sym, refl, ap, ◌∙◌, subst, arith}
+use Rattle.std.proofs.Common.{◌≡◌, ℕ, ◌+◌, ◌≤◌, Bool, true, false, cond, eqb, leb, List, [], ◌∷◌, map, drop, Some, None, Option, sym, refl, ap, ◌∙◌, subst}
 use Rattle.std.specs.Option.{is_some}
 use Rattle.std.specs.List.{slice_get, list_all}
 use Rattle.std.proofs.lemmas.Bool.{and_parts, and_right, and_from, le-leb, cond-true, cond-false}
@@ -7,30 +7,17 @@ use Rattle.traffic.specs.declared.packet.Packet.{Packet}
 use Rattle.traffic.specs.declared.packet.Job.{Job}
 use Rattle.traffic.specs.Packets.{Traffic, packet_of}
 use Rattle.gates.specs.declared.entry.Entry.{Entry}
-use Rattle.gates.specs.Open.{alone_below, gates_at, open_at, stays_open}
+use Rattle.gates.specs.Open.{open_at, stays_open}
 use Rattle.sending.specs.Sheet.{wire, mandatory}
 use Rattle.sending.specs.Port.{State, Turn, idle, send, serve}
 use Rattle.sending.specs.Calls.{of_sheet, one_start}
 use Rattle.port.specs.declared.lanes.Lanes.{Lanes}
-use Rattle.port.specs.declared.counts.Counts.{Counts as Counter}
 use Rattle.port.specs.declared.station.Station.{Station}
 use Rattle.port.specs.Counting.{counts_of}
-use Rattle.port.specs.Lanes.{queue_at, waiting_of, as_sheet, Lined, LaneLeft}
-use Rattle.port.specs.Station.{state_of, third_step, Sent}
+use Rattle.port.specs.Lanes.{queue_at, waiting_of, as_sheet, LaneLeft}
+use Rattle.port.specs.Station.{state_of, sheet_of, third_step, Sent}
 use Rattle.port.specs.Quiet.{fitting, can_start}
-use Rattle.port.proofs.Lining.{as_sheet-is, left-lined, left_waiting}
-
--- there are eight gates
-low_gate : (n g q : ℕ) → alone_below n g ≡ Some q → q < n
-low_gate zero g q e = let z : ◌≡◌ {A = ℕ} 0 1 = cc in absurd (omega arith)
-low_gate (suc n) g q e = go (eqb g (2 ^ n)) e (low_gate n g q)
-  where
-    go : (b : Bool) → cond b (Some n) (alone_below n g) ≡ Some q → (alone_below n g ≡ Some q → q < n) → q < suc n
-    go true h ih = let k : n ≡ q = cc in omega arith
-    go false h ih = let k = ih h in omega arith
-
-pub open_low : (es : List Entry) (o q : ℕ) → open_at es o ≡ Some q → q < 8
-open_low es o q e = low_gate 8 (gates_at es o) q e
+use Rattle.port.proofs.Lining.{as_sheet-is, left_waiting}
 
 module _ (s : Traffic) (es : List Entry) (t o : ℕ) where
   -- no gate is open
@@ -99,10 +86,13 @@ starting l es o q w c = at_gate (open_at es o) refl c
         at_head None i c = cc
         at_head (Some x) i c = fitted (stays_open es r o x.wire) x refl i c
 
-module _ (s : Traffic) (es : List Entry) (t o : ℕ) (entry : Station) (lines : Lined s entry.lanes) where
+module _ (es : List Entry) (t o : ℕ) (entry : Station) where
+  abbrev s : Traffic
+  s = sheet_of entry
+
   module _ (q : ℕ) (w : Job) (head : slice_get (queue_at entry.lanes q) 0 ≡ Some w) where
     good : as_sheet s w ≡ true
-    good = first_good s (queue_at entry.lanes q) w head (and_parts _ _ (lines q)).1
+    good = first_good s (queue_at entry.lanes q) w head (and_parts _ _ (entry.lined q)).1
 
     pub ours : of_sheet s (packet_of w) ≡ true
     ours = (and_parts (of_sheet s (packet_of w)) _ good).0
@@ -125,19 +115,20 @@ module _ (s : Traffic) (es : List Entry) (t o : ℕ) (entry : Station) (lines : 
           at_head None i c = vacant s es t o (state_of entry) q e (none_first (queue_at entry.lanes q) i)
           at_head (Some w) i c = unfit s es t o (state_of entry) q (packet_of w) (drop 1 (waiting_of entry.lanes q)) e (line q w i) (ap (stays_open es q o) (sym (wire-is q w i)) ∙ unfitting (stays_open es q o w.wire) (q, w) c)
 
-  pub sent_nothing : can_start entry.lanes es o (open_at es o) ≡ None → Sent s es t o None entry entry
-  sent_nothing c = let e = stuck c in record { start = ap (λ (x : Turn Packet). x.start) (sym e); state = ap (λ (x : Turn Packet). x.after) (sym e); counts = refl; last = refl; lined = lines }
+  pub sent_nothing : can_start entry.lanes es o (open_at es o) ≡ None → Sent es t o None entry entry
+  sent_nothing c = let e = stuck c in record { sheet = refl; start = ap (λ (x : Turn Packet). x.start) (sym e); state = ap (λ (x : Turn Packet). x.after) (sym e); counts = refl; last = refl }
 
-  pub sent_start : (q : ℕ) (w : Job) → Starting entry.lanes es o q w → entry.free ≤ t → (l : Lanes) → LaneLeft q entry.lanes l → (c : Counter) (p : Packet) (b : Bool) → p ≡ packet_of w → b ≡ mandatory s (packet_of w) → counts_of c ≡ one_start b (counts_of entry.counts) →
-      Sent s es t o (Some p) entry (record { lanes = l; free = t + w.wire; last = entry.last; counts = c })
-  sent_start q w can free l h c p b is m k =
+  pub sent_start : (q : ℕ) (w : Job) → Starting entry.lanes es o q w → entry.free ≤ t → (p : Packet) → p ≡ packet_of w → (y : Station) → y.sheet ≡ entry.sheet → LaneLeft q entry.lanes y.lanes → y.free ≡ t + w.wire → counts_of y.counts ≡ one_start (mandatory s p) (counts_of entry.counts) → y.last ≡ entry.last →
+      Sent es t o (Some p) entry y
+  sent_start q w can free p is y sheets h frees counted lasts =
       let wires = wire-is q w can.head in
       let it = starts s es t o (state_of entry) q (packet_of w) (drop 1 (waiting_of entry.lanes q)) can.gate (line q w can.head) free (ap (stays_open es q o) (sym wires) ∙ can.fits) in
-      let waits = left_waiting s entry.lanes l q lines h in
+      let waits = left_waiting s entry.lanes y.lanes q entry.lined h in
+      let until = frees ∙ ap (λ (n : ℕ). t + n) wires in
       record {
+        sheet = sheets;
         start = ap Some is ∙ ap (λ (x : Turn Packet). x.start) (sym it);
-        state = ◌∙◌ {b = record { waiting = λ r. cond (eqb r q) (drop 1 (waiting_of entry.lanes q)) (waiting_of entry.lanes r); free = t + wire s (packet_of w) }} (λ i. record { waiting = λ r. waits r i; free = t + wires i }) (ap (λ (x : Turn Packet). x.after) (sym it));
-        counts = k ∙ ap (λ (x : Bool). one_start x (counts_of entry.counts)) m ∙ ap (λ (x : Packet). one_start (mandatory s x) (counts_of entry.counts)) (sym is);
-        last = refl;
-        lined = left-lined s entry.lanes l q lines h;
+        state = ◌∙◌ {b = record { waiting = λ r. cond (eqb r q) (drop 1 (waiting_of entry.lanes q)) (waiting_of entry.lanes r); free = t + wire s (packet_of w) }} (λ i. record { waiting = λ r. waits r i; free = until i }) (ap (λ (x : Turn Packet). x.after) (sym it));
+        counts = counted;
+        last = lasts;
       }

@@ -11,18 +11,16 @@ use Rattle.traffic.specs.Pattern.{mandatory_at}
 use Rattle.traffic.specs.Packets.{Traffic, arrival, listed, no_flow}
 use Rattle.cycle.specs.Cycle.{packets_in, number_in_cycle}
 use Rattle.cycle.proofs.Repeats.{same_place}
+use Rattle.sheet.specs.declared.sheet.Sheet.{Sheet}
+use Rattle.sheet.specs.Contents.{traffic_of}
 use Rattle.sheet.specs.Ranges.{flow_kept, all_kept}
 use Rattle.sheet.proofs.Numerals.{between_parts}
 use Rattle.sheet.proofs.FlowLines.{kept_parts}
 use Rattle.sending.specs.Sheet.{Fits, OfSheet, cycle, flow, job_of, queue}
 use Rattle.sending.specs.Calls.{of_sheet}
+use Rattle.sending.proofs.Fitting.{read_sheets_fit}
 use Rattle.sending.proofs.Packets.{fits_of}
 use Rattle.sending.proofs.Source.{ours_from}
-
--- what a test did not let through
-pub none_cond : {X : Type 0} (b : Bool) (k : X) → None ≡ cond b (Some k) None → b ≡ false
-none_cond true k e = cc
-none_cond false k e = refl
 
 -- each flow of a sheet keeps its ranges
 kept_at : (r : Rate) (fs : List Flow) (i : ℕ) → all_kept r fs ≡ true → i < length fs → flow_kept r (get_or fs i no_flow) ≡ true
@@ -80,6 +78,10 @@ module _ (s : Traffic) (kept : all_kept s.rate s.flows ≡ true) (p : Packet) (e
       go : (b : Bool) → MatchOption (cond b (Some (job_of s p)) None) (r ≡ None) (λ x. r ≡ then_some (ltb 0 p.number && eqb x.arrival p.arrival) x) → r ≡ cond (b && fits) (Some (job_of s p)) None
       go true m = m ∙ some fits
       go false m = m
+
+-- its cycle takes some time
+pub some_cycle : (sheet : Sheet) → 0 < sheet.cycle
+some_cycle sheet = let some = (read_sheets_fit (traffic_of sheet) sheet.kept).some_time in omega (arith, sheet.round)
 
 -- some of its packets arrive in a cycle
 packets_some : (s : Traffic) → Fits s → (p : Packet) → OfSheet s p → 0 < packets_in (cycle s) (flow s p.flow)
