@@ -1,19 +1,20 @@
 -- What cannot start at an offset cannot start later in the same entry. Assumes nothing.
-use Rattle.std.proofs.Common.{◌≡◌, ℕ, ◌+◌, ◌-◌, ◌%◌, ◌<◌, ◌≤◌, Bool, true, false, cond, ltb, List, [], ◌∷◌, Some, None, Option, sym, refl, ap, ◌∙◌, subst, ⊎_elim, arith}
-use Rattle.std.proofs.lemmas.Bool.{cases_Bool, cases_lt, both_ways, ltb-true, ltb-false}
-use Rattle.traffic.specs.Packets.{Traffic}
+use Rattle.std.proofs.Common.{◌≡◌, ℕ, zero, suc, ◌+◌, ◌-◌, ◌%◌, ◌<◌, ◌≤◌, Bool, true, false, cond, eqb, ltb, List, [], ◌∷◌, map, length, get_or, Some, None, Option, sym, refl, ap, ◌∙◌, subst, ⊎_elim, arith}
+use Rattle.std.specs.List.{list_all, slice_get}
+use Rattle.std.proofs.lemmas.Bool.{and_parts, cond-false, eqb-true, cases_Bool, cases_lt, both_ways, ltb-true, ltb-false}
+use Rattle.traffic.specs.declared.packet.Job.{Job}
+use Rattle.traffic.specs.Packets.{Traffic, packet_of}
 use Rattle.gates.specs.declared.entry.Entry.{Entry}
 use Rattle.gates.specs.Open.{opens, gates_at, gate_of, open_at, stays_open}
 use Rattle.gates.proofs.Stays.{at_here, at_later, stays_from, stays_at}
 use Rattle.sending.specs.Sheet.{cycle}
 use Rattle.sending.specs.Port.{idle}
-use Rattle.port.specs.declared.waiting.Waiting.{Waiting}
+use Rattle.port.specs.declared.lanes.Lanes.{Lanes}
 use Rattle.port.specs.declared.station.Station.{Station}
-use Rattle.port.specs.Waiting.{packet_of, queue_list, first_of, behind_first}
-use Rattle.port.specs.Lanes.{queue_at, waiting_of, Lined}
-use Rattle.port.specs.Station.{state_of, third_step}
-use Rattle.port.specs.Quiet.{Unsent, steady, fits_first, can_start}
-use Rattle.port.proofs.Outgo.{shut, vacant, unfit, none_first, line, wire-is}
+use Rattle.port.specs.Lanes.{queue_at, nothing_waits}
+use Rattle.port.specs.Station.{state_of, sheet_of, third_step}
+use Rattle.port.specs.Quiet.{Unsent, steady, fitting, can_start}
+use Rattle.port.proofs.Outgo.{shut, vacant, unfitting, stuck}
 use Rattle.port.proofs.Passing.{offset_later}
 
 -- within an entry the gates are the same
@@ -42,25 +43,48 @@ later_unfit es q o e k l f = ⊎_elim (λ (y : stays_open es q (o + k) e ≡ tru
         subst (λ (n : ℕ). opens q (gates_at es n) ≡ true) at (stays_at es q (o + k) e (v - k) y (omega arith)))
         (cases_lt v k)
 
-module _ (s : Traffic) (es : List Entry) (x : Station) (lines : Lined s x.lanes) where
-  -- nothing can start at the offset, and so not later in the entry
-  pub blocked : (t o k : ℕ) → can_start x.lanes es o (open_at es o) ≡ false → k < steady es o → third_step s es t (o + k) (state_of x) ≡ idle (state_of x)
-  blocked t o k f l = at_gate (open_at es o) refl f
-    where
-      same : open_at es (o + k) ≡ open_at es o
-      same = ap gate_of (steady_gates es o k l)
+-- where nothing waits nothing starts
+none_wait : (qs : List (List Job)) → list_all (λ jobs. eqb (length jobs) 0) qs ≡ true → (q : ℕ) → get_or qs q [] ≡ []
+none_wait [] h q = refl
+none_wait (x ∷ xs) h zero = none_left x (and_parts (eqb (length x) 0) _ h).0
+  where
+    none_left : (ys : List Job) → eqb (length ys) 0 ≡ true → ys ≡ []
+    none_left [] e = refl
+    none_left (y ∷ ys) e = let z = eqb-true (length (y ∷ ys)) 0 e in absurd (omega arith)
+none_wait (x ∷ xs) h (suc q) = none_wait xs (and_parts (eqb (length x) 0) _ h).1 q
 
-      at_gate : (g : Option ℕ) → open_at es o ≡ g → can_start x.lanes es o g ≡ false → third_step s es t (o + k) (state_of x) ≡ idle (state_of x)
-      at_gate None e c = shut s es t (o + k) (state_of x) (same ∙ e)
-      at_gate (Some q) e c = at_head (first_of (queue_list (queue_at x.lanes q))) refl c
-        where
-          at_head : (h : Option Waiting) → h ≡ first_of (queue_list (queue_at x.lanes q)) → fits_first es q o h ≡ false → third_step s es t (o + k) (state_of x) ≡ idle (state_of x)
-          at_head None i c = vacant s es t (o + k) (state_of x) q (same ∙ e) (none_first (queue_list (queue_at x.lanes q)) i)
-          at_head (Some w) i c = unfit s es t (o + k) (state_of x) q (packet_of w) (behind_first (waiting_of x.lanes q)) (same ∙ e) (line s es t o x lines q e w i) (ap (stays_open es q (o + k)) (sym (wire-is s es t o x lines q e w i)) ∙ later_unfit es q o w.job.wire k l c)
+pub none_starts : (es : List Entry) (x : Station) → nothing_waits x.lanes ≡ true → (t : ℕ) → Unsent (sheet_of x) es (state_of x) t
+none_starts es x none t = go (open_at es (t % cycle s)) refl
+  where
+    s : Traffic
+    s = sheet_of x
+
+    go : (g : Option ℕ) → open_at es (t % cycle s) ≡ g → third_step s es t (t % cycle s) (state_of x) ≡ idle (state_of x)
+    go None e = shut s es t (t % cycle s) (state_of x) e
+    go (Some q) e = vacant s es t (t % cycle s) (state_of x) q e (ap (map packet_of) (none_wait x.lanes.queues none q))
+
+-- what cannot start at the offset cannot start later in the entry
+still_stuck : (l : Lanes) (es : List Entry) (o k : ℕ) → k < steady es o → can_start l es o (open_at es o) ≡ None → can_start l es (o + k) (open_at es (o + k)) ≡ None
+still_stuck l es o k h c = ap (can_start l es (o + k)) same ∙ at_gate (open_at es o) c
+  where
+    same : open_at es (o + k) ≡ open_at es o
+    same = ap gate_of (steady_gates es o k h)
+
+    at_head : (q : ℕ) (f : Option Job) → fitting es q o f ≡ None → fitting es q (o + k) f ≡ None
+    at_head q None c = refl
+    at_head q (Some w) c = cond-false _ (Some (q, w)) None (later_unfit es q o w.wire k h (unfitting (stays_open es q o w.wire) (q, w) c))
+
+    at_gate : (g : Option ℕ) → can_start l es o g ≡ None → can_start l es (o + k) g ≡ None
+    at_gate None c = refl
+    at_gate (Some q) c = at_head q (slice_get (queue_at l q) 0) c
+
+module _ (es : List Entry) (x : Station) where
+  abbrev s : Traffic
+  s = sheet_of x
 
   -- up to the end of the entry, or of the cycle
-  pub blocked_on : (clock i : ℕ) → can_start x.lanes es (clock % cycle s) (open_at es (clock % cycle s)) ≡ false → clock ≤ i → i < clock + steady es (clock % cycle s) → i < clock + (cycle s - clock % cycle s) → Unsent s es (state_of x) i
+  pub blocked_on : (clock i : ℕ) → can_start x.lanes es (clock % cycle s) (open_at es (clock % cycle s)) ≡ None → clock ≤ i → i < clock + steady es (clock % cycle s) → i < clock + (cycle s - clock % cycle s) → Unsent s es (state_of x) i
   blocked_on clock i f low a b =
       let at : i ≡ clock + (i - clock) = omega arith in
       let later : i % cycle s ≡ clock % cycle s + (i - clock) = ap (λ (n : ℕ). n % cycle s) at ∙ offset_later clock (i - clock) (cycle s) (omega arith) in
-      ap (λ (o : ℕ). third_step s es i o (state_of x)) later ∙ blocked i (clock % cycle s) (i - clock) f (omega arith)
+      ap (λ (o : ℕ). third_step s es i o (state_of x)) later ∙ stuck es i (clock % cycle s + (i - clock)) x (still_stuck x.lanes es (clock % cycle s) (i - clock) (omega arith) f)

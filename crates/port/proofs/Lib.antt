@@ -1,5 +1,4 @@
 -- Lemmas of the port.
-pub mod Tables
 pub mod Sheets
 pub mod Lining
 pub mod Intake

@@ -1,17 +1,16 @@
 -- Packets of the sheet that wait in order stay so, and stand for what the port's rules say. Assumes nothing.
-use Rattle.std.proofs.Common.{◌≡◌, ℕ, ◌+◌, Bool, true, false, cond, eqb, List, [], ◌∷◌, map, length, sym, refl, ap, ◌∙◌, subst, ⊎_elim, arith}
+use Rattle.std.proofs.Common.{◌≡◌, ℕ, ◌+◌, Bool, true, false, cond, eqb, List, [], ◌∷◌, map, length, drop, sym, refl, ap, ◌∙◌, subst, ⊎_elim, arith}
+use Rattle.std.specs.List.{list_all}
 use Rattle.std.proofs.lemmas.Bool.{and_parts, and_from, eq-eqb, eqb-true, eqb-false, cases_Bool, cond-true, cond-false}
 use Rattle.traffic.specs.declared.packet.Packet.{Packet}
 use Rattle.traffic.specs.declared.packet.Job.{Job}
-use Rattle.traffic.specs.Packets.{Traffic}
+use Rattle.traffic.specs.Packets.{Traffic, packet_of}
 use Rattle.traffic.specs.Orders.{queue_before}
-use Rattle.table.specs.Order.{placed}
+use Rattle.table.specs.Order.{in_order, placed}
 use Rattle.sending.specs.Sheet.{job_of, waits_before, placed as put_in}
 use Rattle.sending.specs.Calls.{of_sheet}
-use Rattle.port.specs.declared.waiting.Waiting.{Waiting}
 use Rattle.port.specs.declared.lanes.Lanes.{Lanes}
-use Rattle.port.specs.Waiting.{waits_first, packet_of, queue_list, queue_packets, queue_ordered, behind_first}
-use Rattle.port.specs.Lanes.{queue_at, waiting_of, same_job, as_sheet, all_as_sheet, lined, Lined, LaneJoined, LaneLeft}
+use Rattle.port.specs.Lanes.{queue_at, waiting_of, same_job, as_sheet, lined, Lined, LaneJoined, LaneLeft}
 use Rattle.sending.proofs.Source.{ours_from}
 
 -- what the sheet says of a packet is all there is
@@ -33,11 +32,11 @@ same_job_self x =
     and_from _ _ (eq-eqb x.queue x.queue refl) (and_from _ _ (eq-eqb x.arrival x.arrival refl) (and_from _ _ (eq-eqb x.deadline x.deadline refl)
     (and_from _ _ (eq-eqb x.wire x.wire refl) (eq-eqb x.weight x.weight refl))))
 
-pub as_sheet-is : (s : Traffic) (w : Waiting) → as_sheet s w ≡ true → w.job ≡ job_of s (packet_of w)
-as_sheet-is s w e = same_job-is w.job (job_of s (packet_of w)) refl refl (and_parts (of_sheet s (packet_of w)) _ e).1
+pub as_sheet-is : (s : Traffic) (w : Job) → as_sheet s w ≡ true → w ≡ job_of s (packet_of w)
+as_sheet-is s w e = same_job-is w (job_of s (packet_of w)) refl refl (and_parts (of_sheet s (packet_of w)) _ e).1
 
 -- a packet of the sheet, as it waits
-pub waits_as : (s : Traffic) (p : Packet) (j : Job) → of_sheet s p ≡ true → j ≡ job_of s p → packet_of (record { job = j }) ≡ p
+pub waits_as : (s : Traffic) (p : Packet) (j : Job) → of_sheet s p ≡ true → j ≡ job_of s p → packet_of j ≡ p
 waits_as s p j e is =
     let o = ours_from s p e in
     let flows : j.flow ≡ p.flow = ap (λ (k : Job). k.flow) is in
@@ -45,44 +44,44 @@ waits_as s p j e is =
     let arrivals : j.arrival ≡ p.arrival = ap (λ (k : Job). k.arrival) is ∙ sym o.on_time in
     λ i. record { flow = flows i; number = numbers i; arrival = arrivals i }
 
-pub waits_as_sheet : (s : Traffic) (p : Packet) (j : Job) → of_sheet s p ≡ true → j ≡ job_of s p → as_sheet s (record { job = j }) ≡ true
+pub waits_as_sheet : (s : Traffic) (p : Packet) (j : Job) → of_sheet s p ≡ true → j ≡ job_of s p → as_sheet s j ≡ true
 waits_as_sheet s p j e is =
     let it = waits_as s p j e is in
-    let job_is : j ≡ job_of s (packet_of (record { job = j })) = is ∙ ap (job_of s) (sym it) in
+    let job_is : j ≡ job_of s (packet_of j) = is ∙ ap (job_of s) (sym it) in
     and_from _ _ (ap (of_sheet s) it ∙ e) (subst (λ (k : Job). same_job j k ≡ true) job_is (same_job_self j))
 
 module _ (s : Traffic) where
-  order_is : (x y : Waiting) → as_sheet s x ≡ true → as_sheet s y ≡ true → waits_first x y ≡ waits_before s (packet_of x) (packet_of y)
+  order_is : (x y : Job) → as_sheet s x ≡ true → as_sheet s y ≡ true → queue_before x y ≡ waits_before s (packet_of x) (packet_of y)
   order_is x y a b = let p = as_sheet-is s x a in let q = as_sheet-is s y b in λ i. queue_before (p i) (q i)
 
-  placed-packets : (w : Waiting) (ws : List Waiting) → as_sheet s w ≡ true → all_as_sheet s ws ≡ true → map packet_of (placed waits_first w ws) ≡ put_in (waits_before s) (packet_of w) (map packet_of ws)
+  placed-packets : (w : Job) (ws : List Job) → as_sheet s w ≡ true → list_all (as_sheet s) ws ≡ true → map packet_of (placed queue_before w ws) ≡ put_in (waits_before s) (packet_of w) (map packet_of ws)
   placed-packets w [] a b = refl
-  placed-packets w (x ∷ xs) a b = go (waits_first w x) (order_is w x a both.0) (placed-packets w xs a both.1)
+  placed-packets w (x ∷ xs) a b = go (queue_before w x) (order_is w x a both.0) (placed-packets w xs a both.1)
     where
-      both : (as_sheet s x ≡ true) × (all_as_sheet s xs ≡ true)
-      both = and_parts (as_sheet s x) (all_as_sheet s xs) b
+      both : (as_sheet s x ≡ true) × (list_all (as_sheet s) xs ≡ true)
+      both = and_parts (as_sheet s x) (list_all (as_sheet s) xs) b
 
-      go : (t : Bool) → t ≡ waits_before s (packet_of w) (packet_of x) → map packet_of (placed waits_first w xs) ≡ put_in (waits_before s) (packet_of w) (map packet_of xs) →
-          map packet_of (cond {A = List Waiting} t (w ∷ (x ∷ xs)) (x ∷ placed waits_first w xs)) ≡ put_in (waits_before s) (packet_of w) (packet_of x ∷ map packet_of xs)
+      go : (t : Bool) → t ≡ waits_before s (packet_of w) (packet_of x) → map packet_of (placed queue_before w xs) ≡ put_in (waits_before s) (packet_of w) (map packet_of xs) →
+          map packet_of (cond {A = List Job} t (w ∷ (x ∷ xs)) (x ∷ placed queue_before w xs)) ≡ put_in (waits_before s) (packet_of w) (packet_of x ∷ map packet_of xs)
       go true e ih = sym (cond-true (waits_before s (packet_of w) (packet_of x)) _ _ (sym e))
       go false e ih = ap (λ (ps : List Packet). packet_of x ∷ ps) ih ∙ sym (cond-false (waits_before s (packet_of w) (packet_of x)) _ _ (sym e))
 
-  placed-as_sheet : (w : Waiting) (ws : List Waiting) → as_sheet s w ≡ true → all_as_sheet s ws ≡ true → all_as_sheet s (placed waits_first w ws) ≡ true
+  placed-as_sheet : (w : Job) (ws : List Job) → as_sheet s w ≡ true → list_all (as_sheet s) ws ≡ true → list_all (as_sheet s) (placed queue_before w ws) ≡ true
   placed-as_sheet w [] a b = and_from _ _ a refl
-  placed-as_sheet w (x ∷ xs) a b = go (waits_first w x) (placed-as_sheet w xs a both.1)
+  placed-as_sheet w (x ∷ xs) a b = go (queue_before w x) (placed-as_sheet w xs a both.1)
     where
-      both : (as_sheet s x ≡ true) × (all_as_sheet s xs ≡ true)
-      both = and_parts (as_sheet s x) (all_as_sheet s xs) b
+      both : (as_sheet s x ≡ true) × (list_all (as_sheet s) xs ≡ true)
+      both = and_parts (as_sheet s x) (list_all (as_sheet s) xs) b
 
-      go : (t : Bool) → all_as_sheet s (placed waits_first w xs) ≡ true → all_as_sheet s (cond {A = List Waiting} t (w ∷ (x ∷ xs)) (x ∷ placed waits_first w xs)) ≡ true
+      go : (t : Bool) → list_all (as_sheet s) (placed queue_before w xs) ≡ true → list_all (as_sheet s) (cond {A = List Job} t (w ∷ (x ∷ xs)) (x ∷ placed queue_before w xs)) ≡ true
       go true ih = and_from _ _ a b
       go false ih = and_from _ _ both.0 ih
 
-  first-gone : (ws : List Waiting) → all_as_sheet s ws ≡ true → all_as_sheet s (behind_first ws) ≡ true
+  first-gone : (ws : List Job) → list_all (as_sheet s) ws ≡ true → list_all (as_sheet s) (drop 1 ws) ≡ true
   first-gone [] b = refl
-  first-gone (w ∷ ws) b = (and_parts (as_sheet s w) (all_as_sheet s ws) b).1
+  first-gone (w ∷ ws) b = (and_parts (as_sheet s w) (list_all (as_sheet s) ws) b).1
 
-  gone-packets : (ws : List Waiting) → map packet_of (behind_first ws) ≡ behind_first (map packet_of ws)
+  gone-packets : (ws : List Job) → map packet_of (drop 1 ws) ≡ drop 1 (map packet_of ws)
   gone-packets [] = refl
   gone-packets (w ∷ ws) = refl
 
@@ -104,38 +103,32 @@ module _ (s : Traffic) where
     pub all_waiting : (ps : List Packet) → waiting_of l' k ≡ ps → (q : ℕ) → waiting_of l' q ≡ cond (eqb q k) ps (waiting_of l q)
     all_waiting ps here q = ⊎_elim
         (λ (e : eqb q k ≡ true). subst (λ (r : ℕ). waiting_of l' r ≡ ps) (sym (eqb-true q k e)) here ∙ sym (cond-true (eqb q k) ps (waiting_of l q) e))
-        (λ (e : eqb q k ≡ false). ap queue_packets (others q (eqb-false q k e)) ∙ sym (cond-false (eqb q k) ps (waiting_of l q) e))
+        (λ (e : eqb q k ≡ false). ap (map packet_of) (others q (eqb-false q k e)) ∙ sym (cond-false (eqb q k) ps (waiting_of l q) e))
         (cases_Bool (eqb q k))
 
   -- a packet of the sheet has joined
-  module _ (l l' : Lanes) (w : Waiting) (h : Lined s l) (a : as_sheet s w ≡ true) (j : LaneJoined w l l') where
+  module _ (l l' : Lanes) (w : Job) (h : Lined s l) (a : as_sheet s w ≡ true) (j : LaneJoined w l l') where
     abbrev k : ℕ
-    k = w.job.queue
+    k = w.queue
 
-    was : (queue_ordered (queue_at l k) ≡ true) × (all_as_sheet s (queue_list (queue_at l k)) ≡ true)
-    was = and_parts (queue_ordered (queue_at l k)) _ (h k)
-
-    held : queue_list (queue_at l' k) ≡ placed waits_first w (queue_list (queue_at l k))
-    held = j.here.holds was.0
+    stood : list_all (as_sheet s) (queue_at l k) ≡ true
+    stood = (and_parts (in_order queue_before (queue_at l k)) _ (h k)).1
 
     pub joined_lined : Lined s l'
-    joined_lined = all_lined l l' k j.others h (and_from _ _ (j.here.ordered was.0) (ap (all_as_sheet s) held ∙ placed-as_sheet w (queue_list (queue_at l k)) a was.1))
+    joined_lined = all_lined l l' k j.others h (and_from _ _ j.ordered (ap (list_all (as_sheet s)) j.here ∙ placed-as_sheet w (queue_at l k) a stood))
 
     pub joined_waiting : (q : ℕ) → waiting_of l' q ≡ cond (eqb q k) (put_in (waits_before s) (packet_of w) (waiting_of l q)) (waiting_of l q)
     joined_waiting q =
-        all_waiting l l' k j.others _ (ap (map packet_of) held ∙ placed-packets w (queue_list (queue_at l k)) a was.1) q
+        all_waiting l l' k j.others _ (ap (map packet_of) j.here ∙ placed-packets w (queue_at l k) a stood) q
         ∙ at_queue (put_in (waits_before s) (packet_of w)) (waiting_of l) q k
 
   -- the first has left a queue
   module _ (l l' : Lanes) (k : ℕ) (h : Lined s l) (j : LaneLeft k l l') where
-    before : (queue_ordered (queue_at l k) ≡ true) × (all_as_sheet s (queue_list (queue_at l k)) ≡ true)
-    before = and_parts (queue_ordered (queue_at l k)) _ (h k)
-
     pub left-lined : Lined s l'
-    left-lined = all_lined l l' k j.others h (and_from _ _ (j.here.ordered before.0) (ap (all_as_sheet s) j.here.holds ∙ first-gone (queue_list (queue_at l k)) before.1))
+    left-lined = all_lined l l' k j.others h (and_from _ _ j.ordered (ap (list_all (as_sheet s)) j.here ∙ first-gone (queue_at l k) (and_parts (in_order queue_before (queue_at l k)) _ (h k)).1))
 
-    pub left_waiting : (q : ℕ) → waiting_of l' q ≡ cond (eqb q k) (behind_first (waiting_of l k)) (waiting_of l q)
-    left_waiting = all_waiting l l' k j.others _ (ap (map packet_of) j.here.holds ∙ gone-packets (queue_list (queue_at l k)))
+    pub left_waiting : (q : ℕ) → waiting_of l' q ≡ cond (eqb q k) (drop 1 (waiting_of l k)) (waiting_of l q)
+    left_waiting = all_waiting l l' k j.others _ (ap (map packet_of) j.here ∙ gone-packets (queue_at l k))
 
 pub length_put_in : (b : Packet → Packet → Bool) (x : Packet) (ys : List Packet) → length (put_in b x ys) ≡ length ys + 1
 length_put_in b x [] = refl

@@ -1,117 +1,101 @@
 -- Packets of the sheet, as the code tells them. Assumes nothing.
-use Rattle.std.proofs.Common.{◌≡◌, ℕ, zero, suc, ◌+◌, ◌-◌, ◌^◌, ◌<◌, ◌≤◌, Bool, true, false, cond, eqb, ltb, leb, List, [], ◌∷◌, length, get_or, Some, None, sym, refl, ap, ◌∙◌, subst, ⊎_elim, arith}
-use Rattle.std.proofs.lemmas.Bool.{cases_Bool, cond_both, and_parts, leb-true, eqb-true, cond-true, cond-false, ltb-false}
+use Rattle.std.proofs.Common.{◌≡◌, ℕ, zero, suc, ◌+◌, ◌^◌, ◌<◌, ◌≤◌, Bool, true, false, cond, ◌&&◌, eqb, ltb, leb, List, [], ◌∷◌, length, get_or, Some, None, Option, sym, refl, ap, ◌∙◌, subst, ⊎_elim, arith}
+use Rattle.std.specs.Bool.{then_some}
+use Rattle.std.specs.Option.{MatchOption}
+use Rattle.std.proofs.lemmas.Bool.{cases_Bool, cond_both, and_parts, and_from, le-leb, lt-ltb, ltb-true, eqb-true, eq-eqb, ne_eqb, both_ways, cond-false}
 use Rattle.traffic.specs.declared.rate.Rate.{Rate}
 use Rattle.traffic.specs.declared.flow.Flow.{Flow}
 use Rattle.traffic.specs.declared.packet.Packet.{Packet}
 use Rattle.traffic.specs.declared.packet.Job.{Job}
 use Rattle.traffic.specs.Pattern.{mandatory_at}
-use Rattle.traffic.specs.Packets.{Traffic, arrival, job, no_flow}
-use Rattle.arrivals.proofs.Belonging.{flow_at_place}
-use Rattle.cycle.specs.Cycle.{packets_in}
+use Rattle.traffic.specs.Packets.{Traffic, arrival, listed, no_flow}
+use Rattle.cycle.specs.Cycle.{packets_in, number_in_cycle}
 use Rattle.cycle.proofs.Repeats.{same_place}
-use Rattle.sheet.specs.Ranges.{between, flow_ranged, flow_kept, all_kept}
+use Rattle.sheet.specs.declared.sheet.Sheet.{Sheet}
+use Rattle.sheet.specs.Contents.{traffic_of}
+use Rattle.sheet.specs.Ranges.{flow_kept, all_kept}
+use Rattle.sheet.proofs.Numerals.{between_parts}
+use Rattle.sheet.proofs.FlowLines.{kept_parts}
 use Rattle.sending.specs.Sheet.{Fits, OfSheet, cycle, flow, job_of, queue}
 use Rattle.sending.specs.Calls.{of_sheet}
+use Rattle.sending.proofs.Fitting.{read_sheets_fit}
 use Rattle.sending.proofs.Packets.{fits_of}
-use Rattle.sending.proofs.Source.{ours_from, ours_to}
-
--- the flow at its place
-pub flow-is : (s : Traffic) (fs : List Flow) (i : ℕ) → fs ≡ s.flows → 1 ≤ i → get_or fs (i - 1) no_flow ≡ flow s i
-flow-is s fs i e l = ap (λ (gs : List Flow). get_or gs (i - 1) no_flow) e ∙ sym (flow_at_place s.flows i l)
-
--- a packet that the sheet does not have
-pub not_ours : (s : Traffic) (p : Packet) → (OfSheet s p → ⊥) → of_sheet s p ≡ false
-not_ours s p h = ⊎_elim (λ (e : of_sheet s p ≡ true). absurd (h (ours_from s p e))) (λ e. e) (cases_Bool (of_sheet s p))
-
--- what a test let through
-pub some_cond : (b : Bool) (j k : Job) → Some j ≡ cond b (Some k) None → j ≡ k
-some_cond true j k e = cc
-some_cond false j k e = let z : ◌≡◌ {A = ℕ} 0 1 = cc in absurd (omega arith)
-
-pub some_passed : (b : Bool) (j k : Job) → Some j ≡ cond b (Some k) None → b ≡ true
-some_passed true j k e = refl
-some_passed false j k e = let z : ◌≡◌ {A = ℕ} 0 1 = cc in absurd (omega arith)
-
-pub none_cond : (b : Bool) (k : Job) → None ≡ cond b (Some k) None → b ≡ false
-none_cond true k e = let z : ◌≡◌ {A = ℕ} 0 1 = cc in absurd (omega arith)
-none_cond false k e = refl
+use Rattle.sending.proofs.Source.{ours_from}
 
 -- each flow of a sheet keeps its ranges
-pub kept_at : (r : Rate) (fs : List Flow) (i : ℕ) → all_kept r fs ≡ true → i < length fs → flow_kept r (get_or fs i no_flow) ≡ true
+kept_at : (r : Rate) (fs : List Flow) (i : ℕ) → all_kept r fs ≡ true → i < length fs → flow_kept r (get_or fs i no_flow) ≡ true
 kept_at r [] i k l = absurd (omega arith)
 kept_at r (f ∷ fs) zero k l = (and_parts (flow_kept r f) (all_kept r fs) k).0
 kept_at r (f ∷ fs) (suc i) k l = kept_at r fs i (and_parts (flow_kept r f) (all_kept r fs) k).1 (omega arith)
 
 -- so its deadline is short
-pub short_deadline : (r : Rate) (f : Flow) → flow_kept r f ≡ true → f.deadline < 2 ^ 32
-short_deadline r f k =
-    let a = (and_parts (flow_ranged f) _ k).0 in
-    let b = (and_parts (between 1 7 f.queue) _ a).1 in
-    let c = (and_parts (between 64 1522 f.octets) _ b).1 in
-    let d = and_parts (between 1 1000000000 f.period) _ c in
-    let e = (and_parts (between 1 f.period f.deadline) _ d.1).0 in
-    let period = leb-true f.period 1000000000 (and_parts (leb 1 f.period) _ d.0).1 in
-    let deadline = leb-true f.deadline f.period (and_parts (leb 1 f.deadline) _ e).1 in
+short_deadline : (s : Traffic) → all_kept s.rate s.flows ≡ true → (i : ℕ) → 1 ≤ i → i ≤ length s.flows → (flow s i).deadline ≤ 1000000000
+short_deadline s kept zero a b = absurd (omega arith)
+short_deadline s kept (suc i) a b =
+    let f = get_or s.flows i no_flow in
+    let r = kept_parts s.rate f (kept_at s.rate s.flows i kept b) in
+    let period = between_parts 1 1000000000 f.period r.period in
+    let deadline = between_parts 1 f.period f.deadline r.deadline in
     omega arith
 
-module _ (s : Traffic) (p : Packet) (r : Rate) (fs : List Flow) (rate-is : r ≡ s.rate) (flows-are : fs ≡ s.flows) (low : 1 ≤ p.flow) (high : p.flow ≤ length fs) (some : 1 ≤ p.number) where
-  abbrev f : Flow
-  f = get_or fs (p.flow - 1) no_flow
+module _ (s : Traffic) (kept : all_kept s.rate s.flows ≡ true) (p : Packet) (early : p.arrival ≤ 4000000000000000000) where
+  abbrev there : Bool
+  there = listed s.flows p.flow && ltb (arrival (flow s p.flow) p.number + (flow s p.flow).deadline) (2 ^ 64)
 
-  f-is : f ≡ flow s p.flow
-  f-is = flow-is s fs p.flow flows-are low
+  abbrev fits : Bool
+  fits = ltb 0 p.number && eqb (arrival (flow s p.flow) p.number) p.arrival
 
-  inside : p.flow ≤ length s.flows
-  inside = subst (λ (gs : List Flow). p.flow ≤ length gs) flows-are high
+  -- the sheet has the packet where its flow has it and it arrives then
+  both_ours : there && fits ≡ of_sheet s p
+  both_ours = ⊎_elim
+      (λ (e : of_sheet s p ≡ true).
+      let o = ours_from s p e in
+      let short = short_deadline s kept p.flow o.from_one o.to_last in
+      let on_time = o.on_time in
+      and_from there fits
+      (and_from (listed s.flows p.flow) _ (and_parts (listed s.flows p.flow) _ e).0 (lt-ltb _ _ (omega arith)))
+      (and_from (ltb 0 p.number) _ (lt-ltb 0 p.number o.numbered) (eq-eqb (arrival (flow s p.flow) p.number) p.arrival (sym on_time)))
+      ∙ sym e)
+      (λ (e : of_sheet s p ≡ false). ⊎_elim
+      (λ (h : (there && fits) ≡ true).
+      let a = and_parts there fits h in
+      let b = and_parts (ltb 0 p.number) _ a.1 in
+      let numbered = ltb-true 0 p.number b.0 in
+      let on_time = eqb-true (arrival (flow s p.flow) p.number) p.arrival b.1 in
+      absurd (both_ways (of_sheet s p) e (and_from (listed s.flows p.flow) _ (and_parts (listed s.flows p.flow) _ a.0).0 (and_from (leb 1 p.number) _ (le-leb 1 p.number numbered) (eq-eqb p.arrival _ (sym on_time))))))
+      (λ h. h ∙ sym e)
+      (cases_Bool (there && fits)))
+      (cases_Bool (of_sheet s p))
 
-  job_is : job r p.flow f p.number ≡ job_of s p
-  job_is = λ i. job (rate-is i) p.flow (f-is i) p.number
+  -- what the sheet says of its flow's packet, if it is this one
+  pub job_told : (o r : Option Job) → o ≡ cond there (Some (job_of s p)) None → MatchOption o (r ≡ None) (λ x. r ≡ then_some (ltb 0 p.number && eqb x.arrival p.arrival) x) → r ≡ cond (of_sheet s p) (Some (job_of s p)) None
+  job_told o r e h = go there (subst (λ k. MatchOption k (r ≡ None) (λ x. r ≡ then_some (ltb 0 p.number && eqb x.arrival p.arrival) x)) e h) ∙ ap (λ b. cond b (Some (job_of s p)) None) both_ours
+    where
+      some : (b : Bool) → then_some b (job_of s p) ≡ cond b (Some (job_of s p)) None
+      some true = refl
+      some false = refl
 
-  -- the sheet has the packet
-  pub job-there : (j : Job) → Some j ≡ cond (ltb (arrival f p.number + f.deadline) (2 ^ 64)) (Some (job r p.flow f p.number)) None → j.arrival ≡ p.arrival →
-      Some j ≡ cond (of_sheet s p) (Some (job_of s p)) None
-  job-there j e a =
-      let is : j ≡ job_of s p = some_cond _ j (job r p.flow f p.number) e ∙ job_is in
-      let ours : of_sheet s p ≡ true = ours_to s p (record { from_one = low; to_last = inside; numbered = some; on_time = sym a ∙ ap (λ (k : Job). k.arrival) is }) in
-      ap Some is ∙ sym (cond-true (of_sheet s p) (Some (job_of s p)) None ours)
+      go : (b : Bool) → MatchOption (cond b (Some (job_of s p)) None) (r ≡ None) (λ x. r ≡ then_some (ltb 0 p.number && eqb x.arrival p.arrival) x) → r ≡ cond (b && fits) (Some (job_of s p)) None
+      go true m = m ∙ some fits
+      go false m = m
 
-  -- it has another arrival there
-  pub job_elsewhere : (j : Job) → Some j ≡ cond (ltb (arrival f p.number + f.deadline) (2 ^ 64)) (Some (job r p.flow f p.number)) None → (j.arrival ≡ p.arrival → ⊥) →
-      None ≡ cond (of_sheet s p) (Some (job_of s p)) None
-  job_elsewhere j e a =
-      let is : j ≡ job_of s p = some_cond _ j (job r p.flow f p.number) e ∙ job_is in
-      sym (cond-false (of_sheet s p) (Some (job_of s p)) None (not_ours s p (λ o. a (ap (λ (k : Job). k.arrival) is ∙ sym o.on_time))))
-
-  -- it arrives too late for the sheet
-  pub job_never : p.arrival ≤ 4000000000000000000 → all_kept s.rate s.flows ≡ true → None ≡ cond (ltb (arrival f p.number + f.deadline) (2 ^ 64)) (Some (job r p.flow f p.number)) None →
-      None ≡ cond (of_sheet s p) (Some (job_of s p)) None
-  job_never early keeps e =
-      let fits : f.deadline < 2 ^ 32 = subst (λ (gs : List Flow). (get_or gs (p.flow - 1) no_flow).deadline < 2 ^ 32) (sym flows-are) (short_deadline s.rate (get_or s.flows (p.flow - 1) no_flow) (kept_at s.rate s.flows (p.flow - 1) keeps (let i = inside in omega arith))) in
-      let over = ltb-false (arrival f p.number + f.deadline) (2 ^ 64) (none_cond _ (job r p.flow f p.number) e) in
-      sym (cond-false (of_sheet s p) (Some (job_of s p)) None (not_ours s p (λ o. let at : p.arrival ≡ arrival f p.number = o.on_time ∙ ap (λ (g : Flow). arrival g p.number) (sym f-is) in omega arith)))
+-- its cycle takes some time
+pub some_cycle : (sheet : Sheet) → 0 < sheet.cycle
+some_cycle sheet = let some = (read_sheets_fit (traffic_of sheet) sheet.kept).some_time in omega (arith, sheet.round)
 
 -- some of its packets arrive in a cycle
-pub packets_some : (s : Traffic) → Fits s → (p : Packet) → OfSheet s p → 0 < packets_in (cycle s) (flow s p.flow)
+packets_some : (s : Traffic) → Fits s → (p : Packet) → OfSheet s p → 0 < packets_in (cycle s) (flow s p.flow)
 packets_some s fs p o =
     let place = same_place (cycle s) (flow s p.flow) (fits_of s fs p o).whole_patterns fs.some_time 1 in
     omega (arith, place.first, place.last)
 
-no_count : (n v : ℕ) → None ≡ cond (eqb n 0) None (Some v) → n ≡ 0
-no_count n v e = go (eqb n 0) refl e
-  where
-    go : (b : Bool) → eqb n 0 ≡ b → None ≡ cond b None (Some v) → n ≡ 0
-    go true h k = eqb-true n 0 h
-    go false h k = let z : ◌≡◌ {A = ℕ} 0 1 = cc in absurd (omega arith)
-
 -- so a packet of it has a number there
-pub number_there : (s : Traffic) → Fits s → (p : Packet) → OfSheet s p → (a v : ℕ) (fs : List Flow) → a ≡ cycle s → fs ≡ s.flows →
-    None ≡ cond (eqb (packets_in a (get_or fs (p.flow - 1) no_flow)) 0) None (Some v) → ⊥
-number_there s fit p o a v fs e k none =
+pub number_there : (s : Traffic) → Fits s → (p : Packet) → OfSheet s p → (a : ℕ) (f : Flow) → a ≡ cycle s → f ≡ flow s p.flow → (r : Option ℕ) →
+    r ≡ cond (eqb (packets_in a f) 0) None (Some (number_in_cycle a f p.number)) → r ≡ Some (number_in_cycle (cycle s) (flow s p.flow) p.number)
+number_there s fit p o a f e g r h =
     let some = packets_some s fit p o in
-    let zero_in : packets_in a (get_or fs (p.flow - 1) no_flow) ≡ 0 = no_count _ v none in
-    let is : packets_in a (get_or fs (p.flow - 1) no_flow) ≡ packets_in (cycle s) (flow s p.flow) = λ i. packets_in (e i) (flow-is s fs p.flow k o.from_one i) in
-    omega arith
+    h ∙ (λ i. cond (eqb (packets_in (e i) (g i)) 0) None (Some (number_in_cycle (e i) (g i) p.number)))
+    ∙ cond-false (eqb (packets_in (cycle s) (flow s p.flow)) 0) None (Some (number_in_cycle (cycle s) (flow s p.flow) p.number)) (ne_eqb _ _ (λ z. omega arith))
 
 -- and waits in one of the eight queues
 pub queue_low : (s : Traffic) → Fits s → (p : Packet) → OfSheet s p → queue s p < 8

@@ -1,9 +1,7 @@
 -- What the port's contracts say.
-pub mod Waiting
 pub mod Counting
 pub mod Lanes
 pub mod Station
 pub mod Life
 pub mod Quiet
 pub mod Meaning
-pub mod Behind

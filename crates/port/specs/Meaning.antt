@@ -3,7 +3,6 @@ use Rattle.std.specs.Prelude.{◌≡◌, ℕ, ◌-◌, ◌≤◌, List, Option}
 use Rattle.std.specs.Option.{option_map}
 use Rattle.traffic.specs.declared.packet.Packet.{Packet}
 use Rattle.traffic.specs.Packets.{Traffic}
-use Rattle.sheet.specs.Contents.{traffic_of}
 use Rattle.arrivals.specs.Sources.{first}
 use Rattle.refusal.specs.declared.Refusal.{Refusal}
 use Rattle.refusal.specs.Told.{plain}
@@ -11,11 +10,12 @@ use Rattle.sending.specs.Calls.{Port as Model, Start as Begun, advance_by, decid
 use Rattle.port.specs.declared.start.Start.{Start}
 use Rattle.port.specs.declared.start.AdvanceFault.{AdvanceFault}
 use Rattle.port.specs.declared.port.Port.{Port}
+use Rattle.port.specs.Station.{sheet_of}
 use Rattle.port.specs.Life.{port_of}
 
 -- the sheet of a port
 abbrev pub traffic : Port → Traffic
-traffic p = traffic_of p.sheet.now
+traffic p = sheet_of p.station
 
 -- what a port is by the rules
 abbrev pub meaning : Port → Model
@@ -23,14 +23,14 @@ meaning p = port_of p.clock p.list.now (option_map (λ r. r.now) p.pending) p.st
 
 -- the instant at the clock was decided
 pub record Decides (start : Option Packet) (entry : Port) (source : List Packet) (exit : Port) (rest : List Packet) : Type 0 where
-  pub sheet : exit.sheet ≡ entry.sheet
+  pub sheet : exit.station.sheet ≡ entry.station.sheet
   pub port : meaning exit ≡ (decide (traffic entry) (meaning entry) source).port
   pub left : rest ≡ (decide (traffic entry) (meaning entry) source).left
   pub starts : start ≡ (decide (traffic entry) (meaning entry) source).start
 
 -- the clock moved over instants at which nothing happens: from there on, up to the end, all goes as from the entry, for any source with this head
 pub record Passes (head : Option Packet) (end : ℕ) (entry exit : Port) : Type 0 where
-  pub sheet : exit.sheet ≡ entry.sheet
+  pub sheet : exit.station.sheet ≡ entry.station.sheet
   pub forth : entry.clock ≤ exit.clock
   pub within : exit.clock ≤ end
   pub same : (source : List Packet) → head ≡ first source → advance_by (traffic entry) (end - exit.clock) (meaning exit) source ≡ advance_by (traffic entry) (end - entry.clock) (meaning entry) source
@@ -41,14 +41,14 @@ start_of x = record { at = x.at; flow = x.packet.flow; number = x.packet.number 
 
 -- the instants up to the end were decided, or those up to a start
 pub record Advances (start : Option Start) (end : ℕ) (entry : Port) (source : List Packet) (exit : Port) (rest : List Packet) : Type 0 where
-  pub sheet : exit.sheet ≡ entry.sheet
+  pub sheet : exit.station.sheet ≡ entry.station.sheet
   pub port : meaning exit ≡ (advance_by (traffic entry) (end - entry.clock) (meaning entry) source).port
   pub left : rest ≡ (advance_by (traffic entry) (end - entry.clock) (meaning entry) source).left
   pub starts : start ≡ option_map start_of (advance_by (traffic entry) (end - entry.clock) (meaning entry) source).start
 
 -- nothing has changed
 pub record Unmoved (entry : Port) (source : List Packet) (exit : Port) (rest : List Packet) : Type 0 where
-  pub sheet : exit.sheet ≡ entry.sheet
+  pub sheet : exit.station.sheet ≡ entry.station.sheet
   pub port : meaning exit ≡ meaning entry
   pub left : rest ≡ source
 

@@ -1,16 +1,18 @@
 -- Instants at which nothing happens to a port. Assumes nothing.
-use Rattle.std.specs.Prelude.{◌≡◌, ℕ, ◌-◌, ◌%◌, ◌<◌, ◌≤◌, Bool, false, cond, List, [], ◌∷◌, Some, None, Option, nat_lt}
+use Rattle.std.specs.Prelude.{◌≡◌, ℕ, ◌+◌, ◌-◌, ◌%◌, ◌<◌, ◌≤◌, min, cond, if◌then◌else◌, List, [], ◌∷◌, Some, None, Option, nat_lt}
+use Rattle.std.specs.List.{slice_get}
+use Rattle.std.specs.Option.{is_some}
 use Rattle.traffic.specs.declared.packet.Packet.{Packet}
+use Rattle.traffic.specs.declared.packet.Job.{Job}
 use Rattle.traffic.specs.Packets.{Traffic}
 use Rattle.gates.specs.declared.entry.Entry.{Entry}
-use Rattle.gates.specs.Open.{stays_open}
+use Rattle.gates.specs.Open.{open_at, stays_open}
 use Rattle.sending.specs.Sheet.{cycle}
 use Rattle.sending.specs.Port.{State, idle}
-use Rattle.port.specs.declared.waiting.Waiting.{Waiting}
+use Rattle.port.specs.declared.station.Station.{Station}
 use Rattle.port.specs.declared.lanes.Lanes.{Lanes}
-use Rattle.port.specs.Waiting.{queue_list, first_of}
-use Rattle.port.specs.Lanes.{queue_at}
-use Rattle.port.specs.Station.{third_step}
+use Rattle.port.specs.Lanes.{queue_at, nothing_waits}
+use Rattle.port.specs.Station.{sheet_of, third_step}
 
 -- from the clock up to r, which is not past the end, something holds at each instant
 pub record Lasts (P : ℕ → Type 0) (clock end r : ℕ) : Type 0 where
@@ -36,12 +38,22 @@ abbrev pub steady : List Entry → ℕ → ℕ
 steady [] o = 0
 steady (x ∷ xs) o = cond (nat_lt o x.interval) (x.interval - o) (steady xs (o - x.interval))
 
--- does gate q stay open for the first that waits there
-abbrev pub fits_first : List Entry → (q o : ℕ) → Option Waiting → Bool
-fits_first es q o None = false
-fits_first es q o (Some w) = stays_open es q o w.job.wire
+-- of the first in queue q: it with its queue, if the gate stays open for it
+abbrev pub fitting : List Entry → (q o : ℕ) → Option Job → Option (ℕ × Job)
+fitting es q o None = None
+fitting es q o (Some x) = if stays_open es q o x.wire then Some (q, x) else None
 
--- is a gate open, and does it stay open for the first behind it
-abbrev pub can_start : Lanes → List Entry → (o : ℕ) → Option ℕ → Bool
-can_start l es o None = false
-can_start l es o (Some q) = fits_first es q o (first_of (queue_list (queue_at l q)))
+-- what can start at an offset, with its queue: the first behind the open gate, if there is one and the gate stays open for it
+abbrev pub can_start : Lanes → List Entry → (o : ℕ) → Option ℕ → Option (ℕ × Job)
+can_start l es o None = None
+can_start l es o (Some q) = fitting es q o (slice_get (queue_at l q) 0)
+
+-- how long nothing can start from the clock on, if nothing comes, as far as the end: to the end where nothing waits, else as long as the wire
+-- is taken; not at all where something can start, else to the end of the list's entry or of the cycle
+abbrev pub rests_until : Station → List Entry → (clock end : ℕ) → ℕ
+rests_until x es clock end =
+    let o = clock % cycle (sheet_of x) in
+    cond (nothing_waits x.lanes) end
+    (cond (nat_lt clock x.free) (min x.free end)
+    (cond (is_some (can_start x.lanes es o (open_at es o))) clock
+    (min (clock + min (steady es o) (cycle (sheet_of x) - o)) end)))

@@ -4,7 +4,7 @@ ghost use Rattle.sending.specs.Calls.{no_counts, one_foreign, one_unadmitted, on
 ghost use Rattle.port.specs.Counting.{counts_of};
 
 // The mandatory and the optional starts, the foreign and the unadmitted packets so far; each stops at 2^64 - 1.
-#[derive(Clone, Copy, PartialEq, Eq, Debug)]
+#[derive(Clone, Copy, PartialEq, Eq, Debug, Default)]
 pub struct Counts {
     pub mandatory: u64,
     pub optional: u64,
@@ -17,12 +17,7 @@ impl Counts {
     pub fn none() -> Counts
         ensures { counts_of result ≡ no_counts }
     {
-        Counts {
-            mandatory: 0,
-            optional: 0,
-            foreign: 0,
-            unadmitted: 0,
-        }
+        Counts::default()
     }
 
     // One more foreign packet.

@@ -1,73 +1,72 @@
 // The eight queues of a port.
-ghost use Rattle.std.specs.Prelude.{◌≡◌, ℕ, ◌<◌, true, [], length};
+ghost use Rattle.std.specs.Prelude.{◌≡◌, ℕ, ◌<◌, [], length};
+ghost use Rattle.std.specs.List.{slice_get};
 ghost use Rattle.sending.specs.Port.{holds};
-ghost use Rattle.port.specs.Waiting.{queue_list, first_of};
-ghost use Rattle.port.specs.Lanes.{queue_at, waiting_of, LaneJoined, LaneLeft};
+ghost use Rattle.port.specs.Lanes.{queue_at, waiting_of, nothing_waits, LaneJoined, LaneLeft};
 
-use crate::waiting::{EMPTY_QUEUE, Queue, Waiting};
-use traffic::packet::Packet;
+use table::owned::Table;
+use traffic::packet::{Job, Packet};
 
 // The number of queues.
 const QUEUES: usize = 8;
 
-// A queue for each gate.
+// The places of a queue: one for each flow that a sheet may have.
+const PLACES: usize = 64;
+
+// A queue for each gate: the packets that wait there, each with what the sheet says of it.
 #[derive(Drop)]
-pub struct Lanes {
-    queues: [Queue; QUEUES],
+pub(crate) struct Lanes {
+    queues: [Table<Job, PLACES>; QUEUES],
 }
 
 impl Lanes {
     // Nothing waits.
-    pub fn empty() -> Lanes
-        ensures { (q : ℕ) → queue_list (queue_at result q) ≡ [] }
+    pub(crate) fn new() -> Lanes
+        ensures { (q : ℕ) → queue_at result q ≡ [] }
     {
         Lanes {
-            queues: [EMPTY_QUEUE; QUEUES],
+            queues: std::array::from_fn(|_| Table::new()),
         }
     }
 
     // Does nothing wait at all?
-    pub fn is_empty(&self) -> bool
-        ensures { result ≡ true → (q : ℕ) → q < 8 → queue_list (queue_at self.now q) ≡ [] }
+    pub(crate) fn is_empty(&self) -> bool
+        ensures { result ≡ nothing_waits self.now }
     {
-        for i in 0..QUEUES {
-            if !self.queues[i].is_empty() {
-                return false;
-            }
-        }
-        true
+        self.queues.iter().all(|queue| queue.is_empty())
     }
 
     // The first that waits in a queue, if there is one.
-    pub fn first(&self, queue: u8) -> Option<Waiting>
+    pub(crate) fn first(&self, queue: u8) -> Option<Job>
         requires { queue < 8 }
-        ensures { result ≡ first_of (queue_list (queue_at self.now queue)) }
+        ensures { result ≡ slice_get (queue_at self.now queue) 0 }
     {
         self.queues[queue as usize].first()
     }
 
     // Does this packet wait in the queue?
-    pub fn holds(&self, queue: u8, packet: &Packet) -> bool
+    pub(crate) fn holds(&self, queue: u8, packet: &Packet) -> bool
         requires { queue < 8 }
         ensures { result ≡ holds (waiting_of self.now queue) packet.now }
     {
-        self.queues[queue as usize].holds(packet)
+        let waiting = self.queues[queue as usize].records();
+        waiting.iter().any(|job| *packet == Packet::from(*job))
     }
 
     // A packet joins its queue, where there is room.
-    pub fn join(&mut self, waiting: Waiting)
-        requires there { waiting.job.queue < 8 }
-        requires room { length (queue_list (queue_at self.old waiting.job.queue)) < 64 }
-        ensures { LaneJoined waiting self.old self.new }
+    pub(crate) fn join(&mut self, job: Job)
+        requires there { job.queue < 8 }
+        requires room { length (queue_at self.old job.queue) < 64 }
+        ensures { LaneJoined job self.old self.new }
     {
-        let _ = self.queues[waiting.job.queue as usize].join(waiting);
+        let _ = self.queues[job.queue as usize].put(job);
     }
 
     // The first leaves the queue.
-    pub fn leave(&mut self, queue: u8)
+    pub(crate) fn leave(&mut self, queue: u8)
         requires { queue < 8 }
         ensures { LaneLeft queue self.old self.new }
     {
-        self.queues[queue as usize].leave();
+        let _ = self.queues[queue as usize].take_first();
     }
 }

@@ -7,4 +7,3 @@ mod membership;
 pub mod port;
 pub mod start;
 mod station;
-mod waiting;

@@ -2,7 +2,7 @@
 ghost use Rattle.std.specs.Prelude.{◌≡◌};
 ghost use Rattle.port.specs.Meaning.{advance_refusal};
 
-use refusal::Refusal;
+use refusal::{Reason, Refusal};
 
 // A start: its instant, and the flow and the number of the packet.
 #[derive(Clone, Copy, PartialEq, Eq, Debug)]
@@ -16,11 +16,11 @@ pub struct Start {
 #[derive(Clone, Copy, PartialEq, Eq, Debug)]
 pub struct AdvanceFault;
 
-impl AdvanceFault {
-    // Refusal 18, with no place and no number.
-    pub fn refusal(self) -> Refusal
-        ensures { result ≡ advance_refusal self }
-    {
-        Refusal::plain(18)
+// Refusal 18, with no place and no number.
+impl From<AdvanceFault> for Refusal {
+    ghost from_gives = { λ fault r. r ≡ advance_refusal fault };
+
+    fn from(_fault: AdvanceFault) -> Refusal {
+        Refusal::from(Reason::Instant)
     }
 }

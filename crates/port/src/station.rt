@@ -1,35 +1,41 @@
 // What a port has at hand.
 ghost use Rattle.std.specs.Prelude.{◌≡◌, ℕ, [], None};
+ghost use Rattle.sheet.specs.Contents.{traffic_of};
 ghost use Rattle.sending.specs.Calls.{no_counts};
-ghost use Rattle.port.specs.Waiting.{queue_list};
 ghost use Rattle.port.specs.Counting.{counts_of};
-ghost use Rattle.port.specs.Lanes.{queue_at};
+ghost use Rattle.port.specs.Lanes.{queue_at, Lined};
 
 use crate::counts::Counts;
 use crate::lanes::Lanes;
+use sheet::sheet::Sheet;
 use traffic::packet::Packet;
 
 mod outgoing;
 mod resting;
 mod taking;
+mod timing;
 
-// What waits, up to when the wire is taken, the packet taken last, and the counts.
+// The sheet, what waits, up to when the wire is taken, the packet taken last, and the counts.
 #[derive(Drop)]
-pub struct Station {
+pub(crate) struct Station<'a> {
+    sheet: &'a Sheet,
     lanes: Lanes,
     free: u64,
     last: Option<Packet>,
     counts: Counts,
+    ghost lined: { Lined (traffic_of sheet.now) lanes },
 }
 
-impl Station {
+impl<'a> Station<'a> {
     // Nothing waits, the wire is free, nothing was taken or counted.
-    pub fn new() -> Station
-        ensures lanes { (q : ℕ) → queue_list (queue_at result.lanes q) ≡ [] }
+    pub(crate) fn new(sheet: &'a Sheet) -> Station<'a>
+        ensures sheet { result.sheet ≡ sheet.entry }
+        ensures lanes { (q : ℕ) → queue_at result.lanes q ≡ [] }
         ensures parts { (result.free ≡ 0) × (result.last ≡ None) × (counts_of result.counts ≡ no_counts) }
     {
         Station {
-            lanes: Lanes::empty(),
+            sheet,
+            lanes: Lanes::new(),
             free: 0,
             last: None,
             counts: Counts::none(),
@@ -37,7 +43,7 @@ impl Station {
     }
 
     // The counts so far.
-    pub fn counts(&self) -> Counts
+    pub(crate) fn counts(&self) -> Counts
         ensures { result ≡ self.now.counts }
     {
         self.counts

@@ -21,14 +21,13 @@ impl<'a> Port<'a> {
     // A port on a list that was accepted for the sheet: the clock is at 0, nothing waits or pends, the wire is free.
     pub fn of(sheet: &'a Sheet, list: &'a [Entry]) -> Port<'a>
         requires { Accepted (traffic_of sheet.now) list.now }
-        ensures { (result.sheet ≡ sheet.entry) × (meaning result ≡ new_port list.now) }
+        ensures { (result.station.sheet ≡ sheet.entry) × (meaning result ≡ new_port list.now) }
     {
         Port {
-            sheet,
             list,
             pending: None,
             clock: 0,
-            station: Station::new(),
+            station: Station::new(sheet),
         }
     }
 

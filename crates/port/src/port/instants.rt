@@ -1,10 +1,9 @@
 // One instant after another.
 ghost use Rattle.std.specs.Prelude.{◌≡◌, ◌<◌, ◌≤◌, ◌==◌};
 ghost use Rattle.std.specs.Option.{option_map};
-ghost use Rattle.sheet.specs.Contents.{traffic_of};
 ghost use Rattle.sending.specs.Calls.{switch, still_pending};
 ghost use Rattle.port.specs.Quiet.{Lasts, NotArrived, Unswitched};
-ghost use Rattle.port.specs.Meaning.{Decides, Passes, Advances};
+ghost use Rattle.port.specs.Meaning.{traffic, Decides, Passes, Advances};
 
 use super::Port;
 use crate::start::Start;
@@ -21,12 +20,9 @@ fn in_force<'a>(
     ensures force { result.0.now ≡ switch (offset == 0) list.now (option_map (λ x. x.now) pending.entry) }
     ensures pends { option_map (λ x. x.now) result.1 ≡ still_pending (offset == 0) (option_map (λ x. x.now) pending.entry) }
 {
-    if offset > 0 {
-        return (list, pending);
-    }
     match pending {
-        Some(next) => (next, None),
-        None => (list, None),
+        Some(next) if offset == 0 => (next, None),
+        _ => (list, pending),
     }
 }
 
@@ -35,10 +31,7 @@ fn before_arrival(head: Option<Packet>, clock: u64, end: u64) -> u64
     requires { clock ≤ end }
     ensures { Lasts (NotArrived head) clock end result }
 {
-    match head {
-        Some(packet) => packet.arrival.max(clock).min(end),
-        None => end,
-    }
+    head.map_or(end, |packet| packet.arrival.clamp(clock, end))
 }
 
 impl<'a> Port<'a> {
@@ -48,10 +41,10 @@ impl<'a> Port<'a> {
         ensures { Decides result self.old (S.arrivals source.old) self.new (S.arrivals source.new) }
     {
         let at = self.clock;
-        let offset = at % self.sheet.cycle();
+        let offset = self.station.offset(at);
         let (list, pending) = in_force(offset, self.list, self.pending);
-        self.station.take_arrived(self.sheet, list, at, source);
-        let start = self.station.send(self.sheet, list, at, offset);
+        self.station.take_arrived(list, at, source);
+        let start = self.station.send(list, at, offset);
         self.list = list;
         self.pending = pending;
         self.clock = at + 1;
@@ -61,17 +54,15 @@ impl<'a> Port<'a> {
     // The instant, from the clock on and not past the end, up to which no list comes into force.
     fn before_switch(&self, end: u64) -> u64
         requires { self.now.clock ≤ end }
-        ensures { Lasts (Unswitched (traffic_of self.now.sheet.now) (option_map (λ x. x.now) self.now.pending)) self.now.clock end result }
+        ensures { Lasts (Unswitched (traffic self.now) (option_map (λ x. x.now) self.now.pending)) self.now.clock end result }
     {
         if self.pending.is_none() {
             return end;
         }
-        let cycle = self.sheet.cycle();
-        let gone = self.clock % cycle;
-        if gone == 0 {
+        if self.station.offset(self.clock) == 0 {
             return self.clock;
         }
-        (self.clock + (cycle - gone)).min(end)
+        (self.clock + self.station.cycle_left(self.clock)).min(end)
     }
 
     // Moves the clock over the instants at which nothing happens.
@@ -82,10 +73,7 @@ impl<'a> Port<'a> {
         let clock = self.clock;
         let arrival = before_arrival(head, clock, end);
         let switch = self.before_switch(arrival);
-        let next = self
-            .station
-            .before_start(self.sheet, self.list, clock, switch);
-        self.clock = next;
+        self.clock = self.station.before_start(self.list, clock, switch);
     }
 
     // Decides the instants up to the end, or up to a start, which it answers.

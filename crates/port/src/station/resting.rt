@@ -1,15 +1,10 @@
 // How long nothing starts.
 ghost use Rattle.std.specs.Prelude.{◌≡◌, ◌≤◌};
-ghost use Rattle.gates.specs.Open.{open_at};
-ghost use Rattle.sheet.specs.Contents.{traffic_of};
-ghost use Rattle.port.specs.Lanes.{Lined};
-ghost use Rattle.port.specs.Station.{state_of};
-ghost use Rattle.port.specs.Quiet.{Lasts, Unsent, can_start, steady};
+ghost use Rattle.port.specs.Station.{state_of, sheet_of};
+ghost use Rattle.port.specs.Quiet.{Lasts, Unsent, steady, rests_until};
 
 use super::Station;
 use gates::entry::Entry;
-use gates::opening::{open_at, open_for};
-use sheet::sheet::Sheet;
 
 // How long the gates stay as they are from an offset of a list on, within its entry; 0 past the end of the list.
 fn steady(list: &[Entry], offset: u64) -> u64
@@ -25,26 +20,13 @@ fn steady(list: &[Entry], offset: u64) -> u64
     0
 }
 
-impl Station {
-    // Does a packet wait behind the open gate for which it stays open?
-    fn can_start(&self, list: &[Entry], offset: u64) -> bool
-        ensures { result ≡ can_start self.now.lanes list.now offset (open_at list.now offset) }
-    {
-        let Some(queue) = open_at(list, offset) else {
-            return false;
-        };
-        let Some(first) = self.lanes.first(queue) else {
-            return false;
-        };
-        open_for(list, queue, offset) >= first.job.wire as u64
-    }
-
+impl<'a> Station<'a> {
     // The instant, from the clock on and not past the end, up to which nothing can start, if nothing comes:
     // the end if nothing waits, else the end of what is on the wire or of the list's entry.
-    pub fn before_start(&self, sheet: &Sheet, list: &[Entry], clock: u64, end: u64) -> u64
-        requires lined { Lined (traffic_of sheet.now) self.now.lanes }
-        requires early { (clock ≤ end) × (end ≤ 4000000000000000000) }
-        ensures { Lasts (Unsent (traffic_of sheet.now) list.now (state_of self.now)) clock end result }
+    pub(crate) fn before_start(&self, list: &[Entry], clock: u64, end: u64) -> u64
+        requires { (clock ≤ end) × (end ≤ 4000000000000000000) }
+        ensures until { result ≡ rests_until self.now list.now clock end }
+        ensures quiet { Lasts (Unsent (sheet_of self.now) list.now (state_of self.now)) clock end result }
     {
         if self.lanes.is_empty() {
             return end;
@@ -52,12 +34,11 @@ impl Station {
         if self.free > clock {
             return self.free.min(end);
         }
-        let cycle = sheet.cycle();
-        let offset = clock % cycle;
-        if self.can_start(list, offset) {
+        let offset = self.offset(clock);
+        if self.can_start(list, offset).is_some() {
             return clock;
         }
-        let still = steady(list, offset).min(cycle - offset);
+        let still = steady(list, offset).min(self.cycle_left(clock));
         (clock + still).min(end)
     }
 }

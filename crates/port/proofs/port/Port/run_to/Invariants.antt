@@ -6,7 +6,7 @@ use Rattle.port.proofs.port.Port.run_to.Given as goal
 
 abbrev pub invariant-loop-self : goal.invariant-loop-self
 invariant-loop-self g l =
-    (l.self.sheet ≡ l.initial.self.sheet)
+    (l.self.station.sheet ≡ l.initial.self.station.sheet)
     × (l.self.clock ≤ l.end)
     × (advance_by (traffic l.initial.self) (l.end - l.self.clock) (meaning l.self) (g.S.ArrivalSource.arrivals l.source) ≡ advance_by (traffic l.initial.self) (l.end - l.initial.self.clock) (meaning l.initial.self) (g.S.ArrivalSource.arrivals l.initial.source))
 

@@ -1,49 +1,39 @@
 -- A packet is taken.
-use Rattle.std.proofs.Common.{◌<◌, Some, sym, ◌∙◌, subst}
+use Rattle.std.proofs.Common.{◌<◌, sym, refl, ◌∙◌, subst}
+use Rattle.std.proofs.lemmas.Option.{cond_some}
 use Rattle.traffic.specs.declared.packet.Job.{Job}
-use Rattle.sheet.specs.Contents.{traffic_of}
 use Rattle.sending.specs.Sheet.{job_of}
 use Rattle.sending.specs.Calls.{welcome}
 use Rattle.sending.proofs.Fitting.{read_sheets_fit}
-use Rattle.port.specs.declared.station.Station.{Station}
-use Rattle.port.specs.Station.{state_of, TookIn}
 use Rattle.sending.proofs.Source.{ours_from}
-use Rattle.port.proofs.Sheets.{queue_low, some_cond, some_passed, none_cond}
-use Rattle.port.proofs.Intake.{welcome_ours, has_room, takes_joined, takes_unadmitted, takes_foreign}
+use Rattle.port.specs.Station.{state_of, sheet_of}
+use Rattle.port.proofs.Sheets.{queue_low}
+use Rattle.port.proofs.Intake.{welcome_ours, has_room, still_lined, takes_joined}
 use Rattle.port.proofs.station.Station.take_in.Goals as goal
-use Rattle.port.proofs.station.Station.take_in.Goals.{in-Some+then-is_admitted, in-Some+else-is_admitted, in-None}
 
 pub join-requires : goal.join-requires
 join-requires c =
-    let s = traffic_of c.args.sheet.now in
-    let p = c.args.packet in
     let st = c.args.self.now in
-    let told = c.in-Some.ensures in
-    let w = welcome s c.args.at st.last (state_of st) p in
-    let is = some_cond w c.in-Some.job (job_of s p) told in
-    let passed = some_passed w c.in-Some.job (job_of s p) told in
-    let ours = welcome_ours s c.args.list.now c.args.at p st c.requires.lined passed in
+    let s = sheet_of st in
+    let p = c.args.packet in
+    let told = cond_some (welcome s c.args.at st.last (state_of st) p) (job_of s p) c.in-Some.job (sym c.in-Some.ensures) in
     record {
-      there = subst (λ (j : Job). j.queue < 8) (sym is) (queue_low s (read_sheets_fit s c.args.sheet.now.kept) p (ours_from s p ours));
-      room = has_room s c.args.list.now c.args.at p st c.requires.lined passed (sym c.is_admitted.ensures ∙ c.if-is_admitted.true) c.in-Some.job is c.requires.room;
+      there = subst (λ (j : Job). j.queue < 8) told.1 (queue_low s (read_sheets_fit s st.sheet.now.kept) p (ours_from s p (welcome_ours c.args.list.now c.args.at p st told.0)));
+      room = has_room c.args.list.now c.args.at p st told.0 (sym c.is_admitted.ensures ∙ c.if-is_admitted.true) c.in-Some.job (sym told.1) c.requires.room;
     }
 
-pub returns : goal.returns
-returns c =
-    let s = traffic_of c.args.sheet.now in
-    let es = c.args.list.now in
-    let t = c.args.at in
-    let p = c.args.packet in
+pub invariant_of-self : goal.invariant_of-self
+invariant_of-self c =
     let st = c.args.self.now in
-    let b = welcome s t st.last (state_of st) p in
-    let Goal : Station → Type 0 = λ x. TookIn s es t p st (record { lanes = x.lanes; free = x.free; last = Some p; counts = x.counts }) in
-    elim c.match-welcome.branch [
-      | in-Some+then-is_admitted w ↦
-          let told = w.in-Some.ensures in
-          subst Goal (sym w.self-is) (takes_joined s es t p st c.requires.lined (some_passed b w.in-Some.job (job_of s p) told) (sym w.is_admitted.ensures ∙ w.if-is_admitted.true) w.in-Some.job (some_cond b w.in-Some.job (job_of s p) told) w.join.new.self w.join.ensures)
-      | in-Some+else-is_admitted w ↦
-          let told = w.in-Some.ensures in
-          subst Goal (sym w.self-is) (takes_unadmitted s es t p st c.requires.lined (some_passed b w.in-Some.job (job_of s p) told) (sym w.is_admitted.ensures ∙ w.if-is_admitted.false) w.add_unadmitted.new.self w.add_unadmitted.ensures)
-      | in-None w ↦
-          subst Goal (sym w.self-is) (takes_foreign s es t p st c.requires.lined (none_cond b (job_of s p) w.in-None.ensures) w.add_foreign.new.self w.add_foreign.ensures)
-    ]
+    let s = sheet_of st in
+    let p = c.args.packet in
+    let told = cond_some (welcome s c.args.at st.last (state_of st) p) (job_of s p) c.in-Some.job (sym c.in-Some.ensures) in
+    record { lined = still_lined c.args.list.now c.args.at p st told.0 c.in-Some.job (sym told.1) c.join.new.self c.join.ensures }
+
+pub returns-in-Some : goal.returns-in-Some
+returns-in-Some c =
+    let st = c.args.self.now in
+    let s = sheet_of st in
+    let p = c.args.packet in
+    let told = cond_some (welcome s c.args.at st.last (state_of st) p) (job_of s p) c.in-Some.job (sym c.in-Some.ensures) in
+    takes_joined c.args.list.now c.args.at p st told.0 (sym c.is_admitted.ensures ∙ c.if-is_admitted.true) c.in-Some.job (sym told.1) _ refl c.join.ensures refl refl refl
