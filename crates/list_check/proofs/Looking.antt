@@ -1,5 +1,9 @@
 -- One packet after another of a queue of a sheet.
-use Rattle.std.proofs.Common.{◌≡◌, ℕ, ◌<◌, Bool, true, false, cond, List, ◌∷◌, length, Some, Option, refl, ap, subst, arith}
+use Rattle.std.proofs.Common.{◌≡◌, ℕ, ◌<◌, ◌≤◌, Bool, true, false, cond, List, [], ◌∷◌, Some, None, Option, Iter, sym, refl, subst, arith}
+use Rattle.std.specs.Iterator.{AlwaysYields, YieldsFirst}
+use Rattle.std.specs.declared.iter.Copied.{Copied}
+use Rattle.std.proofs.iter.Yields.{copies, fronts, Copied-slice}
+use Rattle.std.proofs.lemmas.Iterator.Consumers.{YieldsList-from_first}
 use Rattle.traffic.specs.declared.packet.Packet.{Packet}
 use Rattle.traffic.specs.declared.packet.Job.{Job}
 use Rattle.traffic.specs.Packets.{Traffic}
@@ -9,20 +13,17 @@ use Rattle.sheet.specs.Contents.{traffic_of}
 use Rattle.sending.specs.Sheet.{job_of}
 use Rattle.sending.specs.Rules.{Rules}
 use Rattle.sending.proofs.Fitting.{read_sheets_fit}
-use Rattle.coming.specs.declared.coming.Next.{Next}
-use Rattle.coming.specs.Coming.{Due, Lined, Stepped}
-use Rattle.coming.specs.Left.{left}
+use Rattle.coming.specs.Coming.{Due}
+use Rattle.coming.specs.Packets.{packets_before}
 use Rattle.coming.proofs.Dues.{due_bounds}
-use Rattle.coming.proofs.Steps.{stepped}
-use Rattle.coming.proofs.Lefts.{left_step}
 use Rattle.list_check.specs.declared.service.Service.{Service}
 use Rattle.list_check.specs.Serving.{Gated}
 use Rattle.list_check.specs.Fit.{Sound}
 use Rattle.list_check.specs.Service.{Stands, Bounded, least_due}
-use Rattle.list_check.specs.Queued.{Of}
+use Rattle.list_check.specs.Queued.{Of, Queued, QueueComes}
 use Rattle.list_check.specs.Lateness.{Covered}
 use Rattle.list_check.proofs.Progress.{Progress, still_covered}
-use Rattle.list_check.proofs.Starting.{of_due}
+use Rattle.list_check.proofs.Starting.{of_due, mandatory_queued}
 
 pub gated : (sh : Sheet) (es : List Entry) → Rules (traffic_of sh) es → Gated (traffic_of sh) es
 gated sh es rules = record { fits = read_sheets_fit (traffic_of sh) sh.kept; whole = rules.whole; gating = rules.gating }
@@ -50,18 +51,22 @@ due_bounded sh q x d =
 pub of_bounded : (sh : Sheet) (es : List Entry) → Rules (traffic_of sh) es → (q : ℕ) (x : Job) → Of (traffic_of sh) es q x → Bounded x
 of_bounded sh es rules q x o = subst Bounded o.is (due_bounded sh q (job_of (traffic_of sh) o.packet) (of_due (traffic_of sh) es (gated sh es rules) sh.cycle sh.round sh.kept q o.packet o.early o.own))
 
-module _ (sh : Sheet) (q : ℕ) (x : Job) (ns ms : List Next) (lined : Lined (traffic_of sh) sh.cycle q ns) (took : Stepped (traffic_of sh) sh.cycle q x ns ms) where
-  pub bounded : Bounded x
-  bounded = due_bounded sh q x (stepped (traffic_of sh) sh.cycle q x ns ms lined took).due
+-- what an iterator has left after a step, and at its end
+module _ {S : Type 0} (steps : S → Option Job → S → Type 0) (P : List Job → Type 0) (a b : S) where
+  pub next_left : (x : Job) → steps a (Some x) b → (xs : List Job) × AlwaysYields steps (λ y. y) a xs × P xs → (rest : List Job) × AlwaysYields steps (λ y. y) b rest × P (x ∷ rest)
+  next_left x h ([], comes, p) = absurd (comes x b h)
+  next_left x h (y ∷ rest, comes, p) = let k = comes.1 x b h in (rest, k.1, subst (λ (z : Job). P (z ∷ rest)) (sym k.0) p)
 
-  pub lined-after : Lined (traffic_of sh) sh.cycle q ms
-  lined-after = (stepped (traffic_of sh) sh.cycle q x ns ms lined took).lined
+  pub none_left : steps a None b → (xs : List Job) × AlwaysYields steps (λ y. y) a xs × P xs → P []
+  none_left h ([], comes, p) = p
+  none_left h (y ∷ rest, comes, p) = absurd (comes.0 b h)
 
-  next-left : left (traffic_of sh) sh.cycle q ns ≡ x ∷ left (traffic_of sh) sh.cycle q ms
-  next-left = left_step (traffic_of sh) sh.cycle q sh.kept x ns ms lined took
+-- the packets that a list names come in queue order
+pub named_comes : (s : Traffic) (es : List Entry) (it : Copied (Iter Job)) {xs : List Job} → Queued s es 0 xs → it.iter.rest.now ≡ xs → QueueComes (copies fronts) it s es 0
+named_comes s es it queued is = (it.iter.rest.now, Copied-slice it, subst (Queued s es 0) (sym is) queued)
 
-  pub fewer : length (left (traffic_of sh) sh.cycle q ms) < length (left (traffic_of sh) sh.cycle q ns)
-  fewer = let e = ap length next-left in omega arith
-
-  pub progress_next : (es : List Entry) (v : Service) (worst : Option Job) → Progress (traffic_of sh) es q (left (traffic_of sh) sh.cycle q ns) v worst → Progress (traffic_of sh) es q (x ∷ left (traffic_of sh) sh.cycle q ms) v worst
-  progress_next es v worst m = subst (λ (l : List Job). Progress (traffic_of sh) es q l v worst) next-left m
+-- and so do the mandatory packets of a queue
+pub queue_comes : (sh : Sheet) (es : List Entry) → Rules (traffic_of sh) es → (q : ℕ) → 1 ≤ q → (xs : List Job) → xs ≡ packets_before (traffic_of sh) q sh.cycle → QueueComes (YieldsFirst (λ (l : List Job). l)) xs (traffic_of sh) es q
+queue_comes sh es rules q some xs is =
+    (xs, (YieldsList-from_first (λ (x : Job). x) (λ (l : List Job). l) xs refl).runs,
+      subst (Queued (traffic_of sh) es q) (sym is) (mandatory_queued (traffic_of sh) es (gated sh es rules) sh.cycle sh.round sh.kept q some))
