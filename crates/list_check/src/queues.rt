@@ -9,7 +9,7 @@ ghost use Rattle.list_check.specs.Lateness.{KnownLate, Looked};
 ghost use Rattle.list_check.specs.Verdict.{LateAt};
 
 use crate::named::named;
-use crate::service::{Service, is_past, look};
+use crate::service::{Service, due_first, is_past};
 use coming::coming::Queue;
 use gates::entry::Entry;
 use sheet::sheet::Sheet;
@@ -29,13 +29,16 @@ fn look_at<I: Iterator<Item = Job> + Drop>(
     requires known { KnownLate (traffic_of sheet.now) list.now worst }
     ensures { (q : ℕ) → QueueComes I.next_gives packets (traffic_of sheet.now) list.now q → Looked (traffic_of sheet.now) list.now q worst result }
 {
-    let mut service = Service::START;
+    let mut service = Some(Service::start(list));
     let mut late = worst;
     for x in packets {
         if is_past(late, &x) {
             return late;
         }
-        late = look(list, &mut service, late, &x);
+        service = service.and_then(|s| s.serve(&x));
+        if service.is_none() {
+            late = Some(due_first(late, x));
+        }
     }
     late
 }
