@@ -6,7 +6,7 @@ ghost use Rattle.list_check.specs.Verdict.{HasFlows, Refused};
 
 use crate::fault::CheckFault;
 use crate::queues::first_late;
-use crate::rules::broken_rule;
+use crate::rules::check_rules;
 use gates::entry::Entry;
 use sheet::sheet::Sheet;
 
@@ -24,9 +24,7 @@ pub fn check<'a>(sheet: &'a Sheet, list: &'a [Entry]) -> Result<Acceptance<'a>, 
     if sheet.flows().is_empty() {
         return Err(CheckFault::EmptySheet);
     }
-    if let Some(fault) = broken_rule(sheet, list) {
-        return Err(fault);
-    }
+    check_rules(sheet, list)?;
     if let Some(x) = first_late(sheet, list) {
         return Err(CheckFault::Late(x.flow, x.number));
     }
