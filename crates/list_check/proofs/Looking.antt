@@ -1,5 +1,5 @@
 -- One packet after another of a queue of a sheet.
-use Rattle.std.proofs.Common.{◌≡◌, ℕ, ◌<◌, ◌≤◌, Bool, true, false, cond, List, [], ◌∷◌, Some, None, Option, Iter, MatchOption, sym, refl, ap, subst, arith}
+use Rattle.std.proofs.Common.{◌≡◌, ℕ, ◌≤◌, true, false, List, [], ◌∷◌, Some, None, Option, Iter, MatchOption, sym, refl, ap, subst, arith}
 use Rattle.std.specs.Option.{option_map, is_some}
 use Rattle.std.specs.Iterator.{AlwaysYields, YieldsFirst}
 use Rattle.std.specs.declared.iter.Copied.{Copied}
@@ -13,11 +13,14 @@ use Rattle.gates.specs.declared.entry.Entry.{Entry}
 use Rattle.sheet.specs.declared.sheet.Sheet.{Sheet}
 use Rattle.sheet.specs.Contents.{traffic_of}
 use Rattle.sending.specs.Sheet.{job_of}
-use Rattle.sending.specs.Rules.{Rules}
+use Rattle.sending.specs.Rules.{Rules, Broken, first_broken}
+use Rattle.sending.specs.InTime.{unbroken}
+use Rattle.sending.proofs.Keeping.{rules_agree}
 use Rattle.sending.proofs.Fitting.{read_sheets_fit}
 use Rattle.coming.specs.Coming.{Due}
 use Rattle.coming.specs.Packets.{packets_before}
 use Rattle.coming.proofs.Dues.{due_bounds}
+use Rattle.list_check.specs.declared.rules.Lawful.{Lawful}
 use Rattle.list_check.specs.declared.service.Service.{Service}
 use Rattle.list_check.specs.Serving.{Gated}
 use Rattle.list_check.specs.Fit.{Placed, Sound}
@@ -26,6 +29,14 @@ use Rattle.list_check.specs.Queued.{Of, Queued, QueueComes}
 use Rattle.list_check.specs.Lateness.{Covered}
 use Rattle.list_check.proofs.Progress.{Progress, still_covered, next_sends, next_misses, next_skips}
 use Rattle.list_check.proofs.Starting.{of_due, mandatory_queued}
+
+-- a lawful list keeps the rules
+pub lawful_rules : (l : Lawful) → Rules (traffic_of l.sheet.now) l.list.now
+lawful_rules l = (rules_agree (traffic_of l.sheet.now) l.list.now).0 (none_broken (first_broken (traffic_of l.sheet.now) l.list.now) l.lawful)
+  where
+    none_broken : (o : Option Broken) → unbroken o ≡ true → o ≡ None
+    none_broken None h = refl
+    none_broken (Some b) h = absurd (false≢true h)
 
 pub gated : (sh : Sheet) (es : List Entry) → Rules (traffic_of sh) es → Gated (traffic_of sh) es
 gated sh es rules = record { fits = read_sheets_fit (traffic_of sh) sh.kept; whole = rules.whole; gating = rules.gating }
@@ -121,6 +132,8 @@ named_comes s es it queued is = (it.iter.rest.now, Copied-slice it, subst (Queue
 
 -- and so do the mandatory packets of a queue
 pub queue_comes : (sh : Sheet) (es : List Entry) → Rules (traffic_of sh) es → (q : ℕ) → 1 ≤ q → (xs : List Job) → xs ≡ packets_before (traffic_of sh) q sh.cycle → QueueComes (YieldsFirst (λ (l : List Job). l)) xs (traffic_of sh) es q
-queue_comes sh es rules q some xs is =
-    (xs, (YieldsList-from_first (λ (x : Job). x) (λ (l : List Job). l) xs refl).runs,
-      subst (Queued (traffic_of sh) es q) (sym is) (mandatory_queued (traffic_of sh) es (gated sh es rules) sh.cycle sh.round sh.kept q some))
+queue_comes sh es rules q some xs is = (
+  xs,
+  (YieldsList-from_first (λ (x : Job). x) (λ (l : List Job). l) xs refl).runs,
+  subst (Queued (traffic_of sh) es q) (sym is) (mandatory_queued (traffic_of sh) es (gated sh es rules) sh.cycle sh.round sh.kept q some),
+)

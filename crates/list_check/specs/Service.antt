@@ -1,5 +1,5 @@
 -- How a queue is served, packet by packet. Assumes nothing.
-use Rattle.std.specs.Prelude.{◌≡◌, ℕ, ◌+◌, ◌<◌, ◌≤◌, max, Bool, true, false, cond, ◌⊎◌, List, Some, None, Option, nat_le, nat_lt}
+use Rattle.std.specs.Prelude.{◌≡◌, ℕ, ◌+◌, ◌<◌, ◌≤◌, max, Bool, false, cond, ◌⊎◌, List, Some, None, Option, nat_le, nat_lt}
 use Rattle.traffic.specs.declared.packet.Job.{Job}
 use Rattle.traffic.specs.Orders.{then_by}
 use Rattle.gates.specs.declared.entry.Entry.{Entry}

@@ -1,9 +1,9 @@
 // The packets that a list names, in queue order.
 ghost use Rattle.std.specs.Prelude.{◌<◌, length};
 ghost use Rattle.sheet.specs.Contents.{traffic_of};
-ghost use Rattle.sending.specs.Rules.{Rules};
 ghost use Rattle.list_check.specs.Queued.{NamedJoins, Queued};
 
+use crate::rules::Lawful;
 use gates::entry::Entry;
 use sheet::sheet::Sheet;
 use table::owned::Table;
@@ -20,13 +20,12 @@ fn join(named: &mut Table<Job, 1024>, sheet: &Sheet, entry: &Entry)
 }
 
 // All packets that the list names.
-pub(crate) fn named(sheet: &Sheet, list: &[Entry]) -> Table<Job, 1024>
-    requires { Rules (traffic_of sheet.now) list.now }
-    ensures { Queued (traffic_of sheet.now) list.now 0 result }
+pub(crate) fn named(lawful: Lawful) -> Table<Job, 1024>
+    ensures { Queued (traffic_of lawful.entry.sheet.now) lawful.entry.list.now 0 result }
 {
     let mut named = Table::new();
-    for entry in list {
-        join(&mut named, sheet, entry);
+    for entry in lawful.list {
+        join(&mut named, lawful.sheet, entry);
     }
     named
 }

@@ -1,7 +1,8 @@
 // The rules of a gate list.
-ghost use Rattle.std.specs.Prelude.{◌≡◌, ◌≤◌, [], length};
+ghost use Rattle.std.specs.Prelude.{◌≡◌, ◌≤◌, true, [], length, MatchResult};
 ghost use Rattle.sheet.specs.Contents.{traffic_of};
 ghost use Rattle.sending.specs.Rules.{total, entries_broken, first_broken};
+ghost use Rattle.sending.specs.InTime.{unbroken};
 ghost use Rattle.list_check.specs.Faults.{outcome_of};
 
 use crate::fault::CheckFault;
@@ -34,7 +35,7 @@ fn total(list: &[Entry]) -> u64
 }
 
 // The rule that a list breaks first: its size, then entry by entry its gates and names, then its time.
-pub(crate) fn check_rules(sheet: &Sheet, list: &[Entry]) -> Result<(), CheckFault>
+fn check_rules(sheet: &Sheet, list: &[Entry]) -> Result<(), CheckFault>
     ensures { result ≡ outcome_of (first_broken (traffic_of sheet.now) list.now) }
 {
     if list.is_empty() || list.len() > MOST_ENTRIES {
@@ -45,4 +46,22 @@ pub(crate) fn check_rules(sheet: &Sheet, list: &[Entry]) -> Result<(), CheckFaul
         return Err(CheckFault::Total);
     }
     Ok(())
+}
+
+// A list that keeps the rules for a sheet.
+#[derive(Clone, Copy)]
+pub(crate) struct Lawful<'a> {
+    pub sheet: &'a Sheet,
+    pub list: &'a [Entry],
+    ghost lawful: { unbroken (first_broken (traffic_of sheet.now) list.now) ≡ true },
+}
+
+impl<'a> Lawful<'a> {
+    // The list, or the rule that it breaks first.
+    pub fn of(sheet: &'a Sheet, list: &'a [Entry]) -> Result<Lawful<'a>, CheckFault>
+        ensures { MatchResult result (λ l. (l.sheet ≡ sheet.entry) × (l.list ≡ list.entry)) (λ fault. Err fault ≡ outcome_of (first_broken (traffic_of sheet.now) list.now)) }
+    {
+        check_rules(sheet, list)?;
+        Ok(Lawful { sheet, list })
+    }
 }

@@ -1,6 +1,5 @@
 -- A power of two opens one gate.
 use Rattle.std.proofs.Common.{◌∙◌, sym, arith}
-use Rattle.std.proofs.lemmas.Bool.{and_from, le-leb}
 use Rattle.list_check.proofs.Gating.{one_gate}
 use Rattle.list_check.proofs.front.is_well_gated.Goals as goal
 

@@ -14,7 +14,7 @@ abbrev pub invariant-loop-x : goal.invariant-loop-x
 invariant-loop-x g l =
     (goal.iterator-loop-x g).can_next l.x-iterator
     × (goal.iterator-loop-x g).is_finite l.x-iterator
-    × StandsIn l.list l.service
-    × ((q : ℕ) → QueueComes (goal.iterator-loop-x g).next_gives l.fn.packets (traffic_of l.sheet) l.list q →
-        (rest : List Job) × AlwaysYields (goal.iterator-loop-x g).next_gives (λ y. y) l.x-iterator rest × Progress (traffic_of l.sheet) l.list q rest (until l.service) l.late)
-    × ((p : Packet) → Covered (traffic_of l.sheet) l.list l.initial.late p → Covered (traffic_of l.sheet) l.list l.late p)
+    × StandsIn l.lawful.list.now l.service
+    × ((q : ℕ) → QueueComes (goal.iterator-loop-x g).next_gives l.fn.packets (traffic_of l.lawful.sheet.now) l.lawful.list.now q →
+    (rest : List Job) × AlwaysYields (goal.iterator-loop-x g).next_gives (λ y. y) l.x-iterator rest × Progress (traffic_of l.lawful.sheet.now) l.lawful.list.now q rest (until l.service) l.late)
+    × ((p : Packet) → Covered (traffic_of l.lawful.sheet.now) l.lawful.list.now l.initial.late p → Covered (traffic_of l.lawful.sheet.now) l.lawful.list.now l.late p)

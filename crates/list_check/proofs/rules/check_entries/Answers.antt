@@ -1,7 +1,7 @@
 -- One entry after another.
 use Rattle.std.proofs.Common.{◌≡◌, ◌+◌, true, List, [], ◌∷◌, ◌++◌, get_or, take, drop, None, Err, sym, ap, ◌∙◌, subst, arith}
 use Rattle.std.proofs.lemmas.Result.{err_from_is_err_and}
-use Rattle.std.proofs.lemmas.List.{at_drop_more, at_drop_all, take_more}
+use Rattle.std.proofs.lemmas.List.{at_drop_more, take_more}
 use Rattle.gates.specs.declared.entry.Entry.{Entry}
 use Rattle.gates.specs.Entries.{no_entry}
 use Rattle.sheet.specs.Contents.{traffic_of}

@@ -1,8 +1,6 @@
 -- Behind its place in the list the packet is sent at its first fit.
-use Rattle.std.proofs.Common.{◌≡◌, ℕ, Option, MatchOption, max, sym, subst, inl, inr, arith}
-use Rattle.list_check.specs.Service.{Misses, Sends}
+use Rattle.std.proofs.Common.{ℕ, subst, inl, inr, arith}
 use Rattle.list_check.specs.Serving.{FirstFit, NoFit}
-use Rattle.list_check.specs.Fit.{Placed}
 use Rattle.list_check.proofs.Fitting.{placed_moved}
 use Rattle.list_check.proofs.service.Service.serve.Goals as goal
 
