@@ -36,10 +36,7 @@ fn list_of(heap: Global, text: &str) -> anyhow::Result<Vec<Entry>> {
 
 // Why the list is refused for the sheet, if it is.
 fn refused<'x>(sheet: &'x Sheet, list: &'x [Entry]) -> Option<Refusal> {
-    match check(sheet, list) {
-        Ok(_) => None,
-        Err(fault) => Some(fault.refusal()),
-    }
+    check(sheet, list).err().map(Refusal::from)
 }
 
 // Why the text or the list is refused, if one is; an error where memory is short.

@@ -1,7 +1,6 @@
 -- The first fit is found entry by entry.
-use Rattle.std.proofs.Common.{◌≡◌, ℕ, zero, suc, ◌+◌, ◌-◌, ◌<◌, ◌≤◌, max, Bool, true, false, cond, leb, List, [], ◌∷◌, ◌++◌, length, get_or, take, drop, Some, None, Option, sym, refl, ap, ◌∙◌, subst, ⊎_elim, arith, MatchOption}
+use Rattle.std.proofs.Common.{◌≡◌, ℕ, zero, suc, ◌+◌, ◌-◌, ◌<◌, ◌≤◌, max, Bool, true, false, cond, leb, List, [], ◌∷◌, ◌++◌, length, get_or, take, drop, Some, None, Option, sym, refl, ap, ◌∙◌, subst, ⊎_elim, append_assoc, arith, MatchOption}
 use Rattle.std.specs.List.{AllByRecursion}
-use Rattle.std.proofs.ByRecursion.{All-drop}
 use Rattle.std.proofs.lemmas.List.{take_more}
 use Rattle.std.proofs.lemmas.Bool.{and_parts, cases_Bool, cases_lt, both_ways, leb-true, leb-false}
 use Rattle.gates.specs.declared.entry.Entry.{Entry}
@@ -10,7 +9,8 @@ use Rattle.gates.specs.Open.{opens, gates_at, stays_open}
 use Rattle.gates.proofs.Stays.{zero_shut, stays_from, stays_at, at_here, at_later}
 use Rattle.sending.specs.Rules.{total, well_gated}
 use Rattle.list_check.specs.Serving.{FirstFit, NoFit}
-use Rattle.list_check.specs.Fit.{fit_from}
+use Rattle.list_check.specs.declared.fit.Cursor.{Cursor}
+use Rattle.list_check.specs.Fit.{Placed, Moved, Sound, fit_from}
 
 -- the time of the entries in front, and of those behind
 pub total_split : (i : ℕ) (es : List Entry) → total (take i es) + total (drop i es) ≡ total es
@@ -18,11 +18,10 @@ total_split zero es = omega arith
 total_split (suc i) [] = refl
 total_split (suc i) (e ∷ es) = let h = total_split i es in omega arith
 
--- the gates behind a place
-pub gates_behind : (i : ℕ) (es : List Entry) (v : ℕ) → gates_at es (total (take i es) + v) ≡ gates_at (drop i es) v
-gates_behind zero es v = let e : 0 + v ≡ v = omega arith in ap (gates_at es) e
-gates_behind (suc i) [] v = refl
-gates_behind (suc i) (x ∷ xs) v = at_later x xs (x.interval + total (take i xs) + v) (total (take i xs) + v) (omega arith) ∙ gates_behind i xs v
+-- the gates behind the entries in front
+pub gates_behind : (front rest : List Entry) (v : ℕ) → gates_at (front ++ rest) (total front + v) ≡ gates_at rest v
+gates_behind [] rest v = let e : 0 + v ≡ v = omega arith in ap (gates_at rest) e
+gates_behind (x ∷ xs) rest v = at_later x (xs ++ rest) (x.interval + total xs + v) (total xs + v) (omega arith) ∙ gates_behind xs rest v
 
 -- a shut instant within e instants from u
 abbrev Shut : (ℕ → Bool) → (u e : ℕ) → Type 0
@@ -95,13 +94,18 @@ shut_stays es q u e (v, a, b, off) = ⊎_elim
     (λ (h : stays_open es q u e ≡ true). let at : u + (v - u) ≡ v = omega arith in absurd (both_ways (opens q (gates_at es v)) off (ap (λ (t : ℕ). opens q (gates_at es t)) (sym at) ∙ stays_at es q u e (v - u) h (omega arith))))
     (λ h. h) (cases_Bool (stays_open es q u e))
 
+all_behind : (P : Entry → Type 0) (front rest : List Entry) → AllByRecursion P (front ++ rest) → AllByRecursion P rest
+all_behind P [] rest h = h
+all_behind P (x ∷ xs) rest h = all_behind P xs rest h.1
+
 -- what the search from a place on finds is the first fit
-pub fit_found : (es : List Entry) (q e : ℕ) → 0 < e → AllByRecursion (λ x. well_gated x ≡ true) es → (i from opened : ℕ) → opened ≡ total (take i es) → opened ≤ from →
-    MatchOption (fit_from (drop i es) q e from opened) (NoFit es q from e) (FirstFit es q from e)
-fit_found es q e some gating i from opened begins onward =
-    go (fit_from (drop i es) q e from opened)
-    (finds (λ t. opens q (gates_at es t)) q e some (drop i es) (All-drop (λ x. well_gated x ≡ true) i es gating) from opened
-    (λ v. ap (λ (o : ℕ). opens q (gates_at es (o + v))) begins ∙ ap (opens q) (gates_behind i es v)) (λ u a b. absurd (omega arith)) (omega arith))
+pub fit_found : (c : Cursor) (q from e : ℕ) → c.opened ≤ from → 0 < e → (r : Option ℕ) → fit_from c.rest.now q e from c.opened ≡ r →
+    (es : List Entry) → Sound es → Placed es c → MatchOption r (NoFit es q from e) (FirstFit es q from e)
+fit_found c q from e onward some r is es sound placed =
+    go r (subst (Finds (λ t. opens q (gates_at es t)) e from) is
+    (finds (λ t. opens q (gates_at es t)) q e some c.rest.now (all_behind (λ x. well_gated x ≡ true) placed.front c.rest.now (subst (AllByRecursion (λ x. well_gated x ≡ true)) placed.parts sound.gating)) from c.opened
+    (λ v. ap (λ (l : List Entry). opens q (gates_at l (c.opened + v))) placed.parts ∙ ap (λ (o : ℕ). opens q (gates_at (placed.front ++ c.rest.now) (o + v))) placed.begins ∙ ap (opens q) (gates_behind placed.front c.rest.now v))
+    (λ u a b. absurd (omega arith)) (omega arith)))
   where
     go : (r : Option ℕ) → Finds (λ t. opens q (gates_at es t)) e from r → MatchOption r (NoFit es q from e) (FirstFit es q from e)
     go None f = λ u a. shut_stays es q u e (f u a)
@@ -111,18 +115,25 @@ fit_found es q e some gating i from opened begins onward =
       first = λ u a b. shut_stays es q u e (f.first u a b);
     }
 
-pub fit_some : (es : List Entry) (q e : ℕ) → 0 < e → AllByRecursion (λ x. well_gated x ≡ true) es → (i from opened t : ℕ) → opened ≡ total (take i es) → opened ≤ from →
-    fit_from (drop i es) q e from opened ≡ Some t → FirstFit es q from e t
-fit_some es q e some gating i from opened t begins onward is = subst (λ (r : Option ℕ). MatchOption r (NoFit es q from e) (FirstFit es q from e)) is (fit_found es q e some gating i from opened begins onward)
-
-pub fit_none : (es : List Entry) (q e : ℕ) → 0 < e → AllByRecursion (λ x. well_gated x ≡ true) es → (i from opened : ℕ) → opened ≡ total (take i es) → opened ≤ from →
-    fit_from (drop i es) q e from opened ≡ None → NoFit es q from e
-fit_none es q e some gating i from opened begins onward is = subst (λ (r : Option ℕ). MatchOption r (NoFit es q from e) (FirstFit es q from e)) is (fit_found es q e some gating i from opened begins onward)
-
-total-append : (xs ys : List Entry) → total (xs ++ ys) ≡ total xs + total ys
+pub total-append : (xs ys : List Entry) → total (xs ++ ys) ≡ total xs + total ys
 total-append [] ys = omega arith
 total-append (x ∷ xs) ys = let h = total-append xs ys in omega arith
 
 -- one more entry
 pub total_more : (i : ℕ) (es : List Entry) → i < length es → total (take (i + 1) es) ≡ total (take i es) + (get_or es i no_entry).interval
 total_more i es h = let a = ap total (take_more es i no_entry h) in let b = total-append (take i es) (get_or es i no_entry ∷ []) in omega arith
+
+-- entries in front, and one more
+pub moved_more : (front rest ns : List Entry) (e : Entry) (ms : List Entry) → rest ≡ front ++ ns → ns ≡ e ∷ ms → rest ≡ (front ++ (e ∷ [])) ++ ms
+moved_more front rest ns e ms is more = is ∙ ap (λ (l : List Entry). front ++ l) more ∙ sym (append_assoc front (e ∷ []) ms)
+
+pub moved_total : (front : List Entry) (e : Entry) → total (front ++ (e ∷ [])) ≡ total front + e.interval
+moved_total front e = let h = total-append front (e ∷ []) in omega arith
+
+-- a place that was moved on is one
+pub placed_moved : (es : List Entry) (a : Cursor) (from : ℕ) (b : Cursor) → Placed es a → Moved a from b → Placed es b
+placed_moved es a from b p m = record {
+  front = p.front ++ m.front;
+  parts = p.parts ∙ ap (λ (l : List Entry). p.front ++ l) m.parts ∙ sym (append_assoc p.front m.front b.rest.now);
+  begins = let h = total-append p.front m.front in let i = p.begins in let j = m.begins in omega arith;
+}

@@ -1,32 +1,27 @@
 -- The packets that a list names are gathered in queue order.
-use Rattle.std.proofs.Common.{◌≡◌, ℕ, ◌+◌, ◌-◌, ◌*◌, ◌/◌, ◌<◌, ◌≤◌, Bool, true, false, cond, not, ◌&&◌, ◌||◌, eqb, leb, List, [], ◌∷◌, ◌++◌, map, length, get_or, take, drop, sym, refl, ap, ◌∙◌, subst, inl, inr, ⊎_elim, mul-le-mul_right, div-mul-le_self, arith}
+use Rattle.std.proofs.Common.{◌≡◌, ℕ, ◌+◌, ◌-◌, ◌*◌, ◌/◌, ◌<◌, ◌≤◌, Bool, true, false, cond, not, ◌&&◌, ◌||◌, eqb, leb, List, [], ◌∷◌, ◌++◌, length, get_or, take, drop, sym, refl, ap, ◌∙◌, subst, inl, inr, ⊎_elim, mul-le-mul_right, div-mul-le_self, arith}
 use native.Mathlib.Nat.{eq_of_mul-eq-mul_right}
 use Rattle.std.specs.List.{AllByRecursion}
 use Rattle.std.proofs.ByRecursion.{All-weaker}
 use Rattle.std.proofs.lemmas.List.{drop_more, take-append-drop}
-use Rattle.std.proofs.lemmas.Bool.{and_parts, and_from, cases_Bool, cases_eq, both_ways, or_cases, or_left, or_right, not-true, not-false, eqb-true, eq-eqb, leb-true, false≢true}
+use Rattle.std.proofs.lemmas.Bool.{and_parts, and_from, cases_Bool, cases_eq, both_ways, and_left, ne_eqb, or_cases, or_left, or_right, not-true, not-false, eqb-true, eq-eqb, le-leb, leb-true, false≢true}
 use Rattle.traffic.specs.declared.packet.Packet.{Packet}
 use Rattle.traffic.specs.declared.packet.Job.{Job}
-use Rattle.traffic.specs.Packets.{Traffic, arrival, job}
+use Rattle.traffic.specs.Packets.{Traffic, listed, arrival, job}
 use Rattle.traffic.specs.Pattern.{mandatory_at}
 use Rattle.traffic.specs.Orders.{queue_before}
 use Rattle.traffic.proofs.Total.{queue_order}
 use Rattle.cycle.specs.Cycle.{packets_in, number_in_cycle}
 use Rattle.gates.specs.declared.entry.Entry.{Entry}
-use Rattle.table.specs.Order.{in_order, placed, placed_last}
-use Rattle.table.proofs.Places.{placed_last-is}
+use Rattle.table.specs.Order.{placed}
 use Rattle.sending.specs.Sheet.{Fits, cycle, flow, job_of, mandatory, packet, queue}
 use Rattle.sending.specs.Rules.{Rules, names_packet, optional_there, well_named}
 use Rattle.gates.specs.Entries.{names}
 use Rattle.sending.specs.InTime.{InFirstCycle}
 use Rattle.sending.proofs.Packets.{some_period}
-use Rattle.coming.specs.declared.coming.Next.{Next}
-use Rattle.coming.specs.Coming.{next_before, next_of, packet_of}
 use Rattle.coming.specs.Rising.{In, Rises}
-use Rattle.coming.specs.Behind.{queue_asym, queue-behind}
-use Rattle.coming.proofs.Steps.{order_placed_last}
 use Rattle.coming.proofs.Rising.{all_placed, rises-placed, in_placed, in_placed-new}
-use Rattle.list_check.specs.Queued.{Of, QueuedNext, NamedJoins}
+use Rattle.list_check.specs.Queued.{Of, Queued, NamedJoins}
 use Rattle.list_check.proofs.Starting.{number_there}
 
 -- what one more entry names
@@ -47,26 +42,24 @@ names-there [] e back = or_left _ _ (and_from _ _ (eq-eqb e.flow e.flow refl) (e
 names-there (x ∷ front) e back = or_right _ _ (names-there front e back)
 
 -- the packets that the entries in front name
-pub record Gathered (s : Traffic) (es front : List Entry) (ns : List Next) : Type 0 where
-  pub ordered : in_order next_before ns ≡ true
-  pub rises : Rises next_before ns
-  pub all_of : AllByRecursion (λ n. Of s es 0 n.packet) ns
-  pub fresh : AllByRecursion (λ n. names front n.packet.flow n.packet.number ≡ true) ns
-  pub complete : (i n : ℕ) → 1 ≤ n → names front i n ≡ true → In (next_of (job s.rate i (flow s i) n)) ns
+pub record Gathered (s : Traffic) (es front : List Entry) (ns : List Job) : Type 0 where
+  pub rises : Rises queue_before ns
+  pub all_of : AllByRecursion (λ n. Of s es 0 n) ns
+  pub fresh : AllByRecursion (λ n. names front n.flow n.number ≡ true) ns
+  pub complete : (i n : ℕ) → 1 ≤ n → names front i n ≡ true → In (job s.rate i (flow s i) n) ns
 
 pub gathered_none : (s : Traffic) (es : List Entry) → Gathered s es [] []
-gathered_none s es = record { ordered = refl; rises = tt; all_of = tt; fresh = tt; complete = λ i n some e. absurd (false≢true e) }
+gathered_none s es = record { rises = tt; all_of = tt; fresh = tt; complete = λ i n some e. absurd (false≢true e) }
 
 still_named : (front : List Entry) (e : Entry) (i n : ℕ) → names front i n ≡ true → names (front ++ (e ∷ [])) i n ≡ true
 still_named front e i n h = names_more front e i n ∙ or_left _ _ h
 
 -- an entry that names no packet
-pub gathered_same : (s : Traffic) (es front : List Entry) (e : Entry) (ns : List Next) → e.number ≡ 0 → Gathered s es front ns → Gathered s es (front ++ (e ∷ [])) ns
+pub gathered_same : (s : Traffic) (es front : List Entry) (e : Entry) (ns : List Job) → e.number ≡ 0 → Gathered s es front ns → Gathered s es (front ++ (e ∷ [])) ns
 gathered_same s es front e ns none g = record {
-  ordered = g.ordered;
   rises = g.rises;
   all_of = g.all_of;
-  fresh = All-weaker (λ (n : Next). names front n.packet.flow n.packet.number ≡ true) (λ (n : Next). names (front ++ (e ∷ [])) n.packet.flow n.packet.number ≡ true) (λ n h. still_named front e _ _ h) ns g.fresh;
+  fresh = All-weaker (λ (n : Job). names front n.flow n.number ≡ true) (λ (n : Job). names (front ++ (e ∷ [])) n.flow n.number ≡ true) (λ n h. still_named front e _ _ h) ns g.fresh;
   complete = λ i n some h. ⊎_elim (λ (k : names front i n ≡ true). g.complete i n some k)
       (λ (k : (eqb e.flow i && eqb e.number n) ≡ true). let same : e.number ≡ n = eqb-true e.number n (and_parts (eqb e.flow i) (eqb e.number n) k).1 in absurd (omega arith))
       (or_cases (names front i n) _ (sym (names_more front e i n) ∙ h));
@@ -81,18 +74,12 @@ pub record NamesOptional (s : Traffic) (front : List Entry) (e : Entry) : Type 0
   pub optional : mandatory_at (flow s e.flow) e.number ≡ false
   pub new : names front e.flow e.number ≡ false
 
-pub names_optional : (s : Traffic) (front : List Entry) (e : Entry) → well_named s front e ≡ true → 0 < e.number → NamesOptional s front e
+pub names_optional : (s : Traffic) (front : List Entry) (e : Entry) → well_named s front e ≡ true → names_packet e ≡ true → NamesOptional s front e
 names_optional s front e h some =
-    ⊎_elim
-    (λ (k : not (names_packet e) ≡ true).
-    let off : names_packet e ≡ false = not-true (names_packet e) k in
-    let both = and_parts (eqb e.flow 0) (eqb e.number 0) (not-false (eqb e.flow 0 && eqb e.number 0) off) in
-    let zero_number = eqb-true e.number 0 both.1 in
-    absurd (omega arith))
-    (λ k.
+    let k = or_rest (names_packet e) _ some h in
     let a = and_parts (eqb e.gates 1) _ k in
     let b = and_parts (optional_there s e.flow e.number) (not (names front e.flow e.number)) a.1 in
-    let c = and_parts (leb 1 e.flow && leb e.flow (length s.flows)) _ b.0 in
+    let c = and_parts (listed s.flows e.flow) _ b.0 in
     let d = and_parts (leb 1 e.flow) (leb e.flow (length s.flows)) c.0 in
     let f = and_parts (leb 1 e.number && leb e.number (packets_in (cycle s) (flow s e.flow))) _ c.1 in
     let g = and_parts (leb 1 e.number) (leb e.number (packets_in (cycle s) (flow s e.flow))) f.0 in
@@ -103,8 +90,11 @@ names_optional s front e h some =
       there = leb-true e.number (packets_in (cycle s) (flow s e.flow)) g.1;
       optional = not-true _ f.1;
       new = not-true _ b.1;
-    })
-    (or_cases (not (names_packet e)) _ h)
+    }
+  where
+    or_rest : (a b : Bool) → a ≡ true → (not a || b) ≡ true → b ≡ true
+    or_rest true b e k = k
+    or_rest false b e k = absurd (false≢true e)
 
 module _ (s : Traffic) (fs : Fits s) (es front back : List Entry) (e : Entry) (is : es ≡ front ++ (e ∷ back)) (o : NamesOptional s front e) where
   abbrev i : ℕ
@@ -135,76 +125,58 @@ module _ (s : Traffic) (fs : Fits s) (es front back : List Entry) (e : Entry) (i
       }
 
   -- it differs from those gathered
-  differs : (m : Next) → Of s es 0 m.packet → names front m.packet.flow m.packet.number ≡ true → next_before (next_of (job s.rate i (flow s i) n)) m ≡ not (next_before m (next_of (job s.rate i (flow s i) n)))
+  differs : (m : Job) → Of s es 0 m → names front m.flow m.number ≡ true → queue_before (job s.rate i (flow s i) n) m ≡ not (queue_before m (job s.rate i (flow s i) n))
   differs m of named =
       let x = job s.rate i (flow s i) n in
-      let at : m.packet.arrival ≡ arrival (flow s m.packet.flow) m.packet.number = sym (ap (λ (y : Job). y.arrival) of.is) ∙ (λ k. arrival (flow s (ap (λ (y : Job). y.flow) of.is k)) (ap (λ (y : Job). y.number) of.is k)) in
+      let at : m.arrival ≡ arrival (flow s m.flow) m.number = sym (ap (λ (y : Job). y.arrival) of.is) ∙ (λ k. arrival (flow s (ap (λ (y : Job). y.flow) of.is k)) (ap (λ (y : Job). y.number) of.is k)) in
       ⊎_elim
-      (λ (f : i ≡ m.packet.flow).
-      let some : 1 ≤ m.packet.number = subst (λ (j : ℕ). 1 ≤ j) (ap (λ (y : Job). y.number) of.is) of.early.ours.numbered in
-      let apart : (x.arrival ≡ m.packet.arrival → ⊥) = λ same.
+      (λ (f : i ≡ m.flow).
+      let some : 1 ≤ m.number = subst (λ (j : ℕ). 1 ≤ j) (ap (λ (y : Job). y.number) of.is) of.early.ours.numbered in
+      let apart : (x.arrival ≡ m.arrival → ⊥) = λ same.
       let T = (flow s i).period in
       let pos = some_period s (flow s i) (fs.each i o.from_one o.to_last) in
-      let own : m.packet.arrival ≡ (m.packet.number - 1) * T = at ∙ ap (λ (j : ℕ). arrival (flow s j) m.packet.number) (sym f) in
+      let own : m.arrival ≡ (m.number - 1) * T = at ∙ ap (λ (j : ℕ). arrival (flow s j) m.number) (sym f) in
       let one = o.some in
-      let equal : n - 1 ≡ m.packet.number - 1 = same_factor (n - 1) (m.packet.number - 1) T pos (same ∙ own) in
-      let number : n ≡ m.packet.number = omega arith in
+      let equal : n - 1 ≡ m.number - 1 = same_factor (n - 1) (m.number - 1) T pos (same ∙ own) in
+      let number : n ≡ m.number = omega arith in
       both_ways (names front i n) o.new ((λ k. names front (f k) (number k)) ∙ named) in
-      queue_order.decides x m.packet (inr apart))
-      (λ ne. queue_order.decides x m.packet (inl ne))
-      (cases_eq i m.packet.flow)
+      queue_order.decides x m (inr apart))
+      (λ ne. queue_order.decides x m (inl ne))
+      (cases_eq i m.flow)
     where
       same_factor : (a b T : ℕ) → 0 < T → a * T ≡ b * T → a ≡ b
       same_factor a b T pos h = eq_of_mul-eq-mul_right T pos a b h
 
   -- it is gathered
-  pub gathered_more : (ns : List Next) → in_order next_before (placed next_before (next_of (job s.rate i (flow s i) n)) ns) ≡ true → Gathered s es front ns →
-      Gathered s es (front ++ (e ∷ [])) (placed next_before (next_of (job s.rate i (flow s i) n)) ns)
-  gathered_more ns ordered g =
-      let x = next_of (job s.rate i (flow s i) n) in
+  pub gathered_more : (ns : List Job) → Gathered s es front ns →
+      Gathered s es (front ++ (e ∷ [])) (placed queue_before (job s.rate i (flow s i) n) ns)
+  gathered_more ns g =
+      let x = job s.rate i (flow s i) n in
       let now-named : names (front ++ (e ∷ [])) i n ≡ true = names_more front e i n ∙ or_right _ _ (and_from _ _ (eq-eqb i i refl) (eq-eqb n n refl)) in
       record {
-        ordered = ordered;
-        rises = rises-placed next_before (λ y. queue_order.never y.packet) (λ a b c. queue_order.chained a.packet b.packet c.packet) x ns (decided ns g.all_of g.fresh) g.rises;
-        all_of = all_placed (λ (m : Next). Of s es 0 m.packet) next_before x ns named_of g.all_of;
-        fresh = all_placed (λ (m : Next). names (front ++ (e ∷ [])) m.packet.flow m.packet.number ≡ true) next_before x ns now-named
-            (All-weaker (λ (m : Next). names front m.packet.flow m.packet.number ≡ true) (λ (m : Next). names (front ++ (e ∷ [])) m.packet.flow m.packet.number ≡ true) (λ m h. still_named front e _ _ h) ns g.fresh);
+        rises = rises-placed queue_before queue_order.never queue_order.chained x ns (decided ns g.all_of g.fresh) g.rises;
+        all_of = all_placed (λ (m : Job). Of s es 0 m) queue_before x ns named_of g.all_of;
+        fresh = all_placed (λ (m : Job). names (front ++ (e ∷ [])) m.flow m.number ≡ true) queue_before x ns now-named
+            (All-weaker (λ (m : Job). names front m.flow m.number ≡ true) (λ (m : Job). names (front ++ (e ∷ [])) m.flow m.number ≡ true) (λ m h. still_named front e _ _ h) ns g.fresh);
         complete = λ j k some h. ⊎_elim
-            (λ (l : names front j k ≡ true). in_placed next_before x (next_of (job s.rate j (flow s j) k)) ns (g.complete j k some l))
+            (λ (l : names front j k ≡ true). in_placed queue_before x (job s.rate j (flow s j) k) ns (g.complete j k some l))
             (λ (l : (eqb i j && eqb n k) ≡ true).
             let both = and_parts (eqb i j) (eqb n k) l in
             let f = eqb-true i j both.0 in
             let m = eqb-true n k both.1 in
-            subst (λ (y : Next). In y (placed next_before x ns)) (λ t. next_of (job s.rate (f t) (flow s (f t)) (m t))) (in_placed-new next_before x ns))
+            subst (λ (y : Job). In y (placed queue_before x ns)) (λ t. job s.rate (f t) (flow s (f t)) (m t)) (in_placed-new queue_before x ns))
             (or_cases (names front j k) _ (sym (names_more front e j k) ∙ h));
       }
     where
-      decided : (ms : List Next) → AllByRecursion (λ m. Of s es 0 m.packet) ms → AllByRecursion (λ m. names front m.packet.flow m.packet.number ≡ true) ms → AllByRecursion (λ m. next_before (next_of (job s.rate i (flow s i) n)) m ≡ not (next_before m (next_of (job s.rate i (flow s i) n)))) ms
+      decided : (ms : List Job) → AllByRecursion (λ m. Of s es 0 m) ms → AllByRecursion (λ m. names front m.flow m.number ≡ true) ms → AllByRecursion (λ m. queue_before (job s.rate i (flow s i) n) m ≡ not (queue_before m (job s.rate i (flow s i) n))) ms
       decided [] a b = tt
       decided (m ∷ ms) a b = (differs m a.0 b.0, decided ms a.1 b.1)
 
 -- all entries gathered are the packets of queue 0
-pub gathered_all : (s : Traffic) → Fits s → (es : List Entry) (ns : List Next) → Gathered s es es ns → QueuedNext s es 0 ns
-gathered_all s fs es ns g = record { all_of = all_jobs ns g.all_of; rises = jobs_rise ns g.rises; complete = complete }
+pub gathered_all : (s : Traffic) → Fits s → (es : List Entry) (ns : List Job) → Gathered s es es ns → Queued s es 0 ns
+gathered_all s fs es ns g = record { all_of = g.all_of; rises = g.rises; complete = complete }
   where
-    all_jobs : (ms : List Next) → AllByRecursion (λ m. Of s es 0 m.packet) ms → AllByRecursion (Of s es 0) (map packet_of ms)
-    all_jobs [] a = tt
-    all_jobs (m ∷ ms) a = (a.0, all_jobs ms a.1)
-
-    before_jobs : (x : Next) (ms : List Next) → AllByRecursion (λ m. next_before x m ≡ true) ms → AllByRecursion (λ y. queue_before x.packet y ≡ true) (map packet_of ms)
-    before_jobs x [] a = tt
-    before_jobs x (m ∷ ms) a = (a.0, before_jobs x ms a.1)
-
-    jobs_rise : (ms : List Next) → Rises next_before ms → Rises queue_before (map packet_of ms)
-    jobs_rise [] a = tt
-    jobs_rise (m ∷ ms) a = (before_jobs m ms a.0, jobs_rise ms a.1)
-
-    in_jobs : (x : Next) (ms : List Next) → In x ms → In x.packet (map packet_of ms)
-    in_jobs x [] k = k
-    in_jobs x (m ∷ ms) (inl e) = inl (ap packet_of e)
-    in_jobs x (m ∷ ms) (inr k) = inr (in_jobs x ms k)
-
-    complete : (p : Packet) → InFirstCycle s es p → queue s p ≡ 0 → In (job_of s p) (map packet_of ns)
+    complete : (p : Packet) → InFirstCycle s es p → queue s p ≡ 0 → In (job_of s p) ns
     complete p i own =
         let f = flow s p.flow in
         let ff = fs.each p.flow i.ours.from_one i.ours.to_last in
@@ -215,20 +187,32 @@ gathered_all s fs es ns g = record { all_of = all_jobs ns g.all_of; rises = jobs
         (λ (m : mandatory s p ≡ true). let q : f.queue ≡ 0 = sym (ap (λ (b : Bool). cond b f.queue 0) m) ∙ own in let one = ff.own_queue in absurd (omega arith))
         (λ m. m) (cases_Bool (mandatory s p)) in
         let named : names es p.flow (number_in_cycle (cycle s) f p.number) ≡ true = sym (ap (λ (b : Bool). b || names es p.flow (number_in_cycle (cycle s) f p.number)) optional) ∙ i.let_in in
-        in_jobs (next_of (job_of s p)) ns (g.complete p.flow p.number i.ours.numbered (ap (names es p.flow) (sym there) ∙ named))
+        g.complete p.flow p.number i.ours.numbered (ap (names es p.flow) (sym there) ∙ named)
 
 -- one more entry
-pub gathered_joins : (s : Traffic) → Fits s → (es front back : List Entry) (e : Entry) → es ≡ front ++ (e ∷ back) → well_named s front e ≡ true → (ns ms : List Next) → NamedJoins s e ns ms → Gathered s es front ns → Gathered s es (front ++ (e ∷ [])) ms
-gathered_joins s fs es front back e is well ns ms (inl (none, same)) g = subst (Gathered s es (front ++ (e ∷ []))) (sym same) (gathered_same s es front e ns none g)
-gathered_joins s fs es front back e is well ns ms (inr (some, put)) g =
-    let o = names_optional s front e well some in
-    let x = next_of (job s.rate e.flow (flow s e.flow) e.number) in
-    let at : placed_last next_before x ns ≡ placed next_before x ns = placed_last-is (λ a b. queue_asym a.packet b.packet) (λ a b c. queue-behind a.packet b.packet c.packet) x ns g.ordered in
-    let ordered : in_order next_before (placed next_before x ns) ≡ true = ap (in_order next_before) (sym at) ∙ order_placed_last x ns g.ordered in
-    subst (Gathered s es (front ++ (e ∷ []))) (sym (put ∙ at)) (gathered_more s fs es front back e is o ns ordered g)
+pub gathered_joins : (s : Traffic) → Fits s → (es front back : List Entry) (e : Entry) → es ≡ front ++ (e ∷ back) → well_named s front e ≡ true → (ns ms : List Job) → NamedJoins s e ns ms → Gathered s es front ns → Gathered s es (front ++ (e ∷ [])) ms
+gathered_joins s fs es front back e is well ns ms (inl (absent, same)) g =
+    let none : e.number ≡ 0 = ⊎_elim
+    (λ (k : names_packet e ≡ true). let o = names_optional s front e well k in absurd (both_ways (listed s.flows e.flow) absent (and_from (leb 1 e.flow) (leb e.flow (length s.flows)) (le-leb _ _ o.from_one) (le-leb _ _ o.to_last))))
+    (λ (k : names_packet e ≡ false). eqb-true e.number 0 (and_parts (eqb e.flow 0) (eqb e.number 0) (not-false _ k)).1)
+    (cases_Bool (names_packet e)) in
+    subst (Gathered s es (front ++ (e ∷ []))) (sym same) (gathered_same s es front e ns none g)
+gathered_joins s fs es front back e is well ns ms (inr (there, put)) g =
+    let some : 1 ≤ e.flow = leb-true 1 e.flow (and_parts (leb 1 e.flow) (leb e.flow (length s.flows)) there).0 in
+    let named : names_packet e ≡ true = ap not (and_left (eqb e.flow 0) (eqb e.number 0) (ne_eqb e.flow 0 (λ z. omega arith))) in
+    subst (Gathered s es (front ++ (e ∷ []))) (sym put) (gathered_more s fs es front back e is (names_optional s front e well named) ns g)
 
 -- an entry of the list
 pub entry_at : (s : Traffic) (es : List Entry) → Rules s es → (i : ℕ) (d : Entry) → i < length es → (es ≡ take i es ++ (get_or es i d ∷ drop (i + 1) es)) × (well_named s (take i es) (get_or es i d) ≡ true)
 entry_at s es rules i d within =
     let is : es ≡ take i es ++ (get_or es i d ∷ drop (i + 1) es) = sym (take-append-drop i es) ∙ ap (λ (l : List Entry). take i es ++ l) (drop_more es i d within) in
     (is, rules.naming (take i es) (get_or es i d) (drop (i + 1) es) is)
+
+length-placed : (x : Job) (ns : List Job) → length (placed queue_before x ns) ≡ length ns + 1
+length-placed x [] = refl
+length-placed x (n ∷ ns) = let rest = length-placed x ns in ⊎_elim (λ e. rw e (omega arith)) (λ e. rw e (omega arith)) (cases_Bool (queue_before x n))
+
+-- at most one joins
+pub joins_few : (s : Traffic) (e : Entry) (ns ms : List Job) → NamedJoins s e ns ms → length ms ≤ length ns + 1
+joins_few s e ns ms (inl (none, same)) = rw same (omega arith)
+joins_few s e ns ms (inr (there, put)) = rw put (omega (arith, length-placed (job s.rate e.flow (flow s e.flow) e.number) ns))

@@ -1,6 +1,5 @@
 -- What the queues looked through say of the list.
-use Rattle.std.proofs.Common.{◌≡◌, ℕ, ◌+◌, ◌<◌, true, false, eqb, List, length, Some, None, Option, sym, refl, ap, ◌∙◌, subst, ⊎_elim, arith, MatchOption}
-use Rattle.std.specs.Option.{option_map}
+use Rattle.std.proofs.Common.{◌≡◌, ℕ, ◌+◌, ◌<◌, true, false, eqb, List, length, Some, None, Option, Ok, Err, sym, refl, ap, subst, ⊎_elim, arith, MatchOption}
 use Rattle.std.proofs.lemmas.Bool.{both_ways, cond_both, cases_eq, eqb-false}
 use Rattle.traffic.specs.declared.flow.Flow.{Flow}
 use Rattle.traffic.specs.declared.packet.Packet.{Packet}
@@ -9,15 +8,14 @@ use Rattle.traffic.specs.Packets.{Traffic}
 use Rattle.traffic.specs.Pattern.{mandatory_at}
 use Rattle.gates.specs.declared.entry.Entry.{Entry}
 use Rattle.sending.specs.Sheet.{Fits, flow, job_of, queue}
-use Rattle.sending.specs.Rules.{Rules, Broken, wrong_size, wrong_gates, wrong_name, wrong_total, first_broken}
+use Rattle.sending.specs.Rules.{Rules, Broken, wrong_size, wrong_gates, wrong_name, wrong_total, or_else, first_broken}
 use Rattle.sending.specs.InTime.{InFirstCycle, InTime}
 use Rattle.list_check.specs.declared.fault.CheckFault.{CheckFault}
 use Rattle.sending.proofs.Keeping.{rules_agree}
-use Rattle.list_check.specs.Faults.{fault_of}
+use Rattle.list_check.specs.Faults.{fault_of, outcome_of}
 use Rattle.list_check.specs.Service.{due_before}
 use Rattle.list_check.specs.Lateness.{Covered, KnownLate, Looked}
 use Rattle.list_check.specs.Verdict.{LateAt, HasFlows, Refused}
-use Rattle.list_check.proofs.Naming.{mapped_none}
 
 -- there are eight queues
 pub queue_low : (s : Traffic) → Fits s → (es : List Entry) (p : Packet) → InFirstCycle s es p → queue s p < 8
@@ -54,7 +52,7 @@ judged s fs es (Some w) (p, (is, (i, late))) covered =
     )
 
 -- the first rule that is broken is why
-pub broken_refused : (s : Traffic) (es : List Entry) (fault : CheckFault) → HasFlows s → Some fault ≡ option_map fault_of (first_broken s es) → Refused s es fault
+pub broken_refused : (s : Traffic) (es : List Entry) (fault : CheckFault) → HasFlows s → Err fault ≡ outcome_of (first_broken s es) → Refused s es fault
 broken_refused s es fault some e = go (first_broken s es) refl e
   where
     at : (b : Broken) → first_broken s es ≡ Some b → Refused s es (fault_of b)
@@ -63,13 +61,23 @@ broken_refused s es fault some e = go (first_broken s es) refl e
     at (wrong_name place) h = (some, h)
     at wrong_total h = (some, h)
 
-    go : (o : Option Broken) → first_broken s es ≡ o → Some fault ≡ option_map fault_of o → Refused s es fault
+    go : (o : Option Broken) → first_broken s es ≡ o → Err fault ≡ outcome_of o → Refused s es fault
     go None h k = let z : ◌≡◌ {A = ℕ} 0 1 = cc in absurd (omega arith)
     go (Some b) h k = let is : fault_of b ≡ fault = cc in subst (Refused s es) is (at b h)
 
--- no fault: the list keeps the rules
-pub kept_rules : (s : Traffic) (es : List Entry) (r : Option CheckFault) → r ≡ option_map fault_of (first_broken s es) → r ≡ None → Rules s es
-kept_rules s es r is none = (rules_agree s es).0 (mapped_none fault_of (first_broken s es) (sym is ∙ none))
+-- no fault: no rule is broken
+pub unbroken : (o : Option Broken) → Ok tt ≡ outcome_of o → o ≡ None
+unbroken None h = refl
+unbroken (Some b) h = let z : ◌≡◌ {A = ℕ} 0 1 = cc in absurd (omega arith)
+
+-- the first rule that is broken is the outcome
+pub first_outcome : (a b : Option Broken) (y : CheckFault) → Err y ≡ outcome_of a → Err y ≡ outcome_of (or_else a b)
+first_outcome None b y e = let z : ◌≡◌ {A = ℕ} 0 1 = cc in absurd (omega arith)
+first_outcome (Some x) b y e = e
+
+-- so the list keeps the rules
+pub kept_rules : (s : Traffic) (es : List Entry) → Ok tt ≡ outcome_of (first_broken s es) → Rules s es
+kept_rules s es h = (rules_agree s es).0 (unbroken (first_broken s es) h)
 
 pub has_flows : (s : Traffic) (fs : List Flow) → fs ≡ s.flows → false ≡ eqb (length fs) 0 → HasFlows s
 has_flows s fs is e =

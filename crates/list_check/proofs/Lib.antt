@@ -7,3 +7,4 @@ mod Starting
 mod Gathering
 mod Looking
 mod Judging
+mod Gating

@@ -16,9 +16,8 @@ use Rattle.sending.proofs.Cycles.{by_ends}
 use Rattle.sending.proofs.Laws.{none_early}
 use Rattle.coming.specs.Rising.{In, Rises}
 use Rattle.coming.proofs.Rising.{all_in}
-use Rattle.list_check.specs.declared.service.Service.{Service}
 use Rattle.list_check.specs.Serving.{sent_at, FirstFit, SentBy, InFront, Cleared, Gated, Late}
-use Rattle.list_check.specs.Service.{Sends, Misses, Serves, due_before, least_due, past}
+use Rattle.list_check.specs.Service.{Sends, Misses, due_before, least_due, past}
 use Rattle.list_check.specs.Queued.{Of}
 use Rattle.list_check.specs.Lateness.{InTimeAt, NoLater, Covered, KnownLate}
 use Rattle.list_check.proofs.Serving.{sent_at-first_fit, late_fit, late_without_fit, late_behind}
@@ -46,17 +45,23 @@ pub record Stuck (s : Traffic) (es : List Entry) (q : ℕ) (rest : List Job) (wo
   pub no_later : NoLater worst (job_of s packet)
   pub leads : Leads s packet rest
 
--- these are left of queue q
-pub record Progress (s : Traffic) (es : List Entry) (q : ℕ) (rest : List Job) (v : Service) (worst : Option Job) : Type 0 where
+-- the packet is sent by this instant, if none was late
+abbrev pub SentUntil : Traffic → List Entry → Packet → Option ℕ → Type 0
+SentUntil s es p None = Unit {0}
+SentUntil s es p (Some free) = SentBy s es p free
+
+-- nothing was sent, or a last packet, or one was late
+abbrev pub Tail : Traffic → List Entry → ℕ → List Job → Option Job → Option ℕ → Type 0
+Tail s es q rest worst None = Stuck s es q rest worst
+Tail s es q rest worst (Some free) = (free ≡ 0) ⊎ Last s es q free rest
+
+-- these are left of queue q, which is served until an instant, or no more
+pub record Progress (s : Traffic) (es : List Entry) (q : ℕ) (rest : List Job) (until : Option ℕ) (worst : Option Job) : Type 0 where
   pub all_of : AllByRecursion (Of s es q) rest
   pub rises : Rises queue_before rest
   pub known : KnownLate s es worst
-  pub split : (p : Packet) → InFirstCycle s es p → queue s p ≡ q → In (job_of s p) rest ⊎ (Covered s es worst p × (v.blocked ≡ false → SentBy s es p v.free))
-  pub last : v.blocked ≡ false → (v.free ≡ 0) ⊎ Last s es q v.free rest
-  pub stuck : v.blocked ≡ true → Stuck s es q rest worst
-
-not_both : {A : Type 0} (b : Bool) → b ≡ false → b ≡ true → A
-not_both b f t = absurd (both_ways b f t)
+  pub split : (p : Packet) → InFirstCycle s es p → queue s p ≡ q → In (job_of s p) rest ⊎ (Covered s es worst p × SentUntil s es p until)
+  pub tail : Tail s es q rest worst until
 
 -- a packet is its job
 same_job : (s : Traffic) (p r : Packet) → OfSheet s p → OfSheet s r → job_of s r ≡ job_of s p → r ≡ p
@@ -110,15 +115,15 @@ least_known s es (Some w) p i known late only = go (due_before (job_of s p) w) r
 
 module _ (s : Traffic) (es : List Entry) (g : Gated s es) (q : ℕ) where
   -- those in front of the next packet have been sent
-  cleared : (p : Packet) (rest : List Job) (v : Service) (worst : Option Job) → InFirstCycle s es p → queue s p ≡ q → v.blocked ≡ false → Progress s es q (job_of s p ∷ rest) v worst → Cleared s es p v.free
-  cleared p rest v worst i own free m = record {
+  cleared : (p : Packet) (rest : List Job) (free : ℕ) (worst : Option Job) → InFirstCycle s es p → queue s p ≡ q → Progress s es q (job_of s p ∷ rest) (Some free) worst → Cleared s es p free
+  cleared p rest free worst i own m = record {
     all_sent = λ r f. ⊎_elim
         (λ here. absurd (in_front r f here))
-        (λ gone. gone.1 free)
+        (λ gone. gone.1)
         (m.split r f.early (f.same_queue ∙ own));
     last_ends = ⊎_elim (λ z. inl z)
         (λ l. inr (l.packet, l.start, record { early = l.early; same_queue = l.own ∙ sym own; before = l.leads.0 }, l.there, l.ends))
-        (m.last free);
+        m.tail;
   }
     where
       in_front : (r : Packet) → InFront s es p r → In (job_of s r) (job_of s p ∷ rest) → ⊥
@@ -128,26 +133,26 @@ module _ (s : Traffic) (es : List Entry) (g : Gated s es) (q : ℕ) where
           both_ways (queue_before (job_of s p) (job_of s p)) (queue_order.never (job_of s p)) (queue_order.chained (job_of s p) (job_of s r) (job_of s p) behind f.before)
 
   -- one packet less is left
-  split_rest : (p : Packet) (rest : List Job) (v w : Service) (worst after : Option Job) → InFirstCycle s es p →
-      ((r : Packet) → InFirstCycle s es r → queue s r ≡ q → In (job_of s r) (job_of s p ∷ rest) ⊎ (Covered s es worst r × (v.blocked ≡ false → SentBy s es r v.free))) →
-      (Covered s es after p × (w.blocked ≡ false → SentBy s es p w.free)) →
-      ((r : Packet) → Covered s es worst r × (v.blocked ≡ false → SentBy s es r v.free) → Covered s es after r × (w.blocked ≡ false → SentBy s es r w.free)) →
-      (r : Packet) → InFirstCycle s es r → queue s r ≡ q → In (job_of s r) rest ⊎ (Covered s es after r × (w.blocked ≡ false → SentBy s es r w.free))
+  split_rest : (p : Packet) (rest : List Job) (v w : Option ℕ) (worst after : Option Job) → InFirstCycle s es p →
+      ((r : Packet) → InFirstCycle s es r → queue s r ≡ q → In (job_of s r) (job_of s p ∷ rest) ⊎ (Covered s es worst r × SentUntil s es r v)) →
+      (Covered s es after p × SentUntil s es p w) →
+      ((r : Packet) → Covered s es worst r × SentUntil s es r v → Covered s es after r × SentUntil s es r w) →
+      (r : Packet) → InFirstCycle s es r → queue s r ≡ q → In (job_of s r) rest ⊎ (Covered s es after r × SentUntil s es r w)
   split_rest p rest v w worst after i split here more r ri own = ⊎_elim
-      (λ (k : In (job_of s r) (job_of s p ∷ rest)). elim k as (λ _. In (job_of s r) rest ⊎ (Covered s es after r × (w.blocked ≡ false → SentBy s es r w.free))) [
-        | inl e ↦ inr (subst (λ (x : Packet). Covered s es after x × (w.blocked ≡ false → SentBy s es x w.free)) (sym (same_job s p r i.ours ri.ours e)) here)
+      (λ (k : In (job_of s r) (job_of s p ∷ rest)). elim k as (λ _. In (job_of s r) rest ⊎ (Covered s es after r × SentUntil s es r w)) [
+        | inl e ↦ inr (subst (λ (x : Packet). Covered s es after x × SentUntil s es x w) (sym (same_job s p r i.ours ri.ours e)) here)
         | inr l ↦ inl l
       ])
       (λ gone. inr (more r gone))
       (split r ri own)
 
-  step_sends : (p : Packet) (rest : List Job) (v w : Service) (worst : Option Job) → InFirstCycle s es p → queue s p ≡ q → v.blocked ≡ false → w.blocked ≡ false → (t : ℕ) → Sends es (job_of s p) v w t →
-      Progress s es q (job_of s p ∷ rest) v worst → Progress s es q rest w worst
-  step_sends p rest v w worst i own free free' t sends m =
-      let c = cleared p rest v worst i own free m in
+  step_sends : (p : Packet) (rest : List Job) (a b : ℕ) (worst : Option Job) → InFirstCycle s es p → queue s p ≡ q → (t : ℕ) → Sends es (job_of s p) a b t →
+      Progress s es q (job_of s p ∷ rest) (Some a) worst → Progress s es q rest (Some b) worst
+  step_sends p rest a b worst i own t sends m =
+      let c = cleared p rest a worst i own m in
       let at : (job_of s p).arrival ≡ p.arrival = sym i.ours.on_time in
-      let fit : FirstFit es (queue s p) (max p.arrival v.free) (wire s p) t = subst (λ (a : ℕ). FirstFit es (queue s p) (max a v.free) (wire s p) t) at sends.fit in
-      let there = sent_at-first_fit s es g p i v.free t c fit in
+      let fit : FirstFit es (queue s p) (max p.arrival a) (wire s p) t = subst (λ (n : ℕ). FirstFit es (queue s p) (max n a) (wire s p) t) at sends.fit in
+      let there = sent_at-first_fit s es g p i a t c fit in
       let on = fit.onward in
       let ends = sends.free in
       let in_time : InTimeAt s es p = (t, record { there = there; arrived = none_early s (λ _. es) (first_cycle s) t p there; ends = by_ends s p t sends.ends }) in
@@ -155,34 +160,32 @@ module _ (s : Traffic) (es : List Entry) (g : Gated s es) (q : ℕ) where
         all_of = m.all_of.1;
         rises = m.rises.1;
         known = m.known;
-        split = split_rest p rest v w worst worst i m.split (inl in_time, λ _. record { start = t; there = there; ends = omega arith })
-            (λ r gone. (gone.0, λ _. let by = gone.1 free in let be = by.ends in record { start = by.start; there = by.there; ends = omega arith }));
-        last = λ _. inr (record { packet = p; start = t; early = i; own = own; there = there; ends = sym ends; leads = m.rises.0 });
-        stuck = λ b. not_both w.blocked free' b;
+        split = split_rest p rest (Some a) (Some b) worst worst i m.split (inl in_time, record { start = t; there = there; ends = omega arith })
+            (λ r gone. (gone.0, let by = gone.1 in let be = by.ends in record { start = by.start; there = by.there; ends = omega arith }));
+        tail = inr (record { packet = p; start = t; early = i; own = own; there = there; ends = sym ends; leads = m.rises.0 });
       }
 
-  step_misses : (p : Packet) (rest : List Job) (v w : Service) (worst : Option Job) → InFirstCycle s es p → queue s p ≡ q → v.blocked ≡ false → w.blocked ≡ true → Misses es (job_of s p) v.free →
-      Progress s es q (job_of s p ∷ rest) v worst → Progress s es q rest w (Some (least_due worst (job_of s p)))
-  step_misses p rest v w worst i own free blocked misses m =
-      let c = cleared p rest v worst i own free m in
+  step_misses : (p : Packet) (rest : List Job) (a : ℕ) (worst : Option Job) → InFirstCycle s es p → queue s p ≡ q → Misses es (job_of s p) a →
+      Progress s es q (job_of s p ∷ rest) (Some a) worst → Progress s es q rest None (Some (least_due worst (job_of s p)))
+  step_misses p rest a worst i own misses m =
+      let c = cleared p rest a worst i own m in
       let at : (job_of s p).arrival ≡ p.arrival = sym i.ours.on_time in
-      let here : Misses es (record { flow = (job_of s p).flow; number = (job_of s p).number; queue = queue s p; arrival = p.arrival; deadline = deadline s p; wire = wire s p; weight = (job_of s p).weight }) v.free =
-      subst (λ (a : ℕ). Misses es (record { flow = (job_of s p).flow; number = (job_of s p).number; queue = queue s p; arrival = a; deadline = deadline s p; wire = wire s p; weight = (job_of s p).weight }) v.free) at misses in
-      let late : Late s es p = ⊎_elim (λ none. late_without_fit s es g p i v.free c none) (λ f. late_fit s es g p i v.free f.0 c f.1.0 f.1.1) here in
+      let here : Misses es (record { flow = (job_of s p).flow; number = (job_of s p).number; queue = queue s p; arrival = p.arrival; deadline = deadline s p; wire = wire s p; weight = (job_of s p).weight }) a =
+      subst (λ (n : ℕ). Misses es (record { flow = (job_of s p).flow; number = (job_of s p).number; queue = queue s p; arrival = n; deadline = deadline s p; wire = wire s p; weight = (job_of s p).weight }) a) at misses in
+      let late : Late s es p = ⊎_elim (λ none. late_without_fit s es g p i a c none) (λ f. late_fit s es g p i a f.0 c f.1.0 f.1.1) here in
       record {
         all_of = m.all_of.1;
         rises = m.rises.1;
         known = least_known s es worst p i m.known (λ _ _ _. late) (λ _. late);
-        split = split_rest p rest v w worst (Some (least_due worst (job_of s p))) i m.split (inr (least_no_later worst (job_of s p)), λ b. not_both w.blocked b blocked)
-            (λ r gone. (still_covered s es worst (job_of s p) r gone.0, λ b. not_both w.blocked b blocked));
-        last = λ b. not_both w.blocked b blocked;
-        stuck = λ _. record { packet = p; early = i; own = own; late = late; no_later = least_no_later worst (job_of s p); leads = m.rises.0 };
+        split = split_rest p rest (Some a) None worst (Some (least_due worst (job_of s p))) i m.split (inr (least_no_later worst (job_of s p)), tt)
+            (λ r gone. (still_covered s es worst (job_of s p) r gone.0, tt));
+        tail = record { packet = p; early = i; own = own; late = late; no_later = least_no_later worst (job_of s p); leads = m.rises.0 };
       }
 
-  step_skips : (p : Packet) (rest : List Job) (v w : Service) (worst : Option Job) → InFirstCycle s es p → queue s p ≡ q → v.blocked ≡ true → w.blocked ≡ true →
-      Progress s es q (job_of s p ∷ rest) v worst → Progress s es q rest w (Some (least_due worst (job_of s p)))
-  step_skips p rest v w worst i own was blocked m =
-      let stuck = m.stuck was in
+  step_skips : (p : Packet) (rest : List Job) (worst : Option Job) → InFirstCycle s es p → queue s p ≡ q →
+      Progress s es q (job_of s p ∷ rest) None worst → Progress s es q rest None (Some (least_due worst (job_of s p)))
+  step_skips p rest worst i own m =
+      let stuck = m.tail in
       let late : (x : Job) → worst ≡ Some x → due_before (job_of s p) x ≡ true → Late s es p = λ x is before.
       let less = due_deadline (job_of s p) x before in
       let no_later : due_before (job_of s stuck.packet) x ≡ false = subst (λ (o : Option Job). NoLater o (job_of s stuck.packet)) is stuck.no_later in
@@ -192,31 +195,30 @@ module _ (s : Traffic) (es : List Entry) (g : Gated s es) (q : ℕ) where
         all_of = m.all_of.1;
         rises = m.rises.1;
         known = least_known s es worst p i m.known late (λ is. absurd (subst (λ (o : Option Job). NoLater o (job_of s stuck.packet)) is stuck.no_later));
-        split = split_rest p rest v w worst (Some (least_due worst (job_of s p))) i m.split (inr (least_no_later worst (job_of s p)), λ b. not_both w.blocked b blocked)
-            (λ r gone. (still_covered s es worst (job_of s p) r gone.0, λ b. not_both w.blocked b blocked));
-        last = λ b. not_both w.blocked b blocked;
-        stuck = λ _. record { packet = stuck.packet; early = stuck.early; own = stuck.own; late = stuck.late; no_later = still_no_later worst (job_of s p) (job_of s stuck.packet) stuck.no_later; leads = stuck.leads.1 };
+        split = split_rest p rest None None worst (Some (least_due worst (job_of s p))) i m.split (inr (least_no_later worst (job_of s p)), tt)
+            (λ r gone. (still_covered s es worst (job_of s p) r gone.0, tt));
+        tail = record { packet = stuck.packet; early = stuck.early; own = stuck.own; late = stuck.late; no_later = still_no_later worst (job_of s p) (job_of s stuck.packet) stuck.no_later; leads = stuck.leads.1 };
       }
 
-  step_at : (p : Packet) (rest : List Job) (v w : Service) (worst : Option Job) (late : Bool) → InFirstCycle s es p → queue s p ≡ q → Serves es (job_of s p) v w late →
-      Progress s es q (job_of s p ∷ rest) v worst → Progress s es q rest w (cond late (Some (least_due worst (job_of s p))) worst)
-  step_at p rest v w worst late i own (inl (was, is, on_time, (t, sends))) m =
-      subst (λ (b : Bool). Progress s es q rest w (cond b (Some (least_due worst (job_of s p))) worst)) (sym on_time) (step_sends p rest v w worst i own was is t sends m)
-  step_at p rest v w worst late i own (inr (inl (was, is, yes-late, misses))) m =
-      subst (λ (b : Bool). Progress s es q rest w (cond b (Some (least_due worst (job_of s p))) worst)) (sym yes-late) (step_misses p rest v w worst i own was is misses m)
-  step_at p rest v w worst late i own (inr (inr (was, is, yes-late))) m =
-      subst (λ (b : Bool). Progress s es q rest w (cond b (Some (least_due worst (job_of s p))) worst)) (sym yes-late) (step_skips p rest v w worst i own was is m)
-
   -- the next packet is served
-  pub step : (x : Job) (rest : List Job) (v w : Service) (worst : Option Job) (late : Bool) → Serves es x v w late →
-      Progress s es q (x ∷ rest) v worst → Progress s es q rest w (cond late (Some (least_due worst x)) worst)
-  step x rest v w worst late serves m =
-      let o = m.all_of.0 in
-      subst (λ (y : Job). Serves es y v w late → Progress s es q (y ∷ rest) v worst → Progress s es q rest w (cond late (Some (least_due worst y)) worst)) o.is
-      (step_at o.packet rest v w worst late o.early o.own) serves m
+  module _ (x : Job) (rest : List Job) (worst : Option Job) where
+    pub next_sends : (a b t : ℕ) → Sends es x a b t → Progress s es q (x ∷ rest) (Some a) worst → Progress s es q rest (Some b) worst
+    next_sends a b t sends m =
+        let o = m.all_of.0 in
+        subst (λ (y : Job). Sends es y a b t → Progress s es q (y ∷ rest) (Some a) worst → Progress s es q rest (Some b) worst) o.is (step_sends o.packet rest a b worst o.early o.own t) sends m
+
+    pub next_misses : (a : ℕ) → Misses es x a → Progress s es q (x ∷ rest) (Some a) worst → Progress s es q rest None (Some (least_due worst x))
+    next_misses a misses m =
+        let o = m.all_of.0 in
+        subst (λ (y : Job). Misses es y a → Progress s es q (y ∷ rest) (Some a) worst → Progress s es q rest None (Some (least_due worst y))) o.is (step_misses o.packet rest a worst o.early o.own) misses m
+
+    pub next_skips : Progress s es q (x ∷ rest) None worst → Progress s es q rest None (Some (least_due worst x))
+    next_skips m =
+        let o = m.all_of.0 in
+        subst (λ (y : Job). Progress s es q (y ∷ rest) None worst → Progress s es q rest None (Some (least_due worst y))) o.is (step_skips o.packet rest worst o.early o.own) m
 
   -- where none is left, all are covered
-  pub all_covered : (v : Service) (worst : Option Job) → Progress s es q [] v worst → (p : Packet) → InFirstCycle s es p → queue s p ≡ q → Covered s es worst p
+  pub all_covered : (v : Option ℕ) (worst : Option Job) → Progress s es q [] v worst → (p : Packet) → InFirstCycle s es p → queue s p ≡ q → Covered s es worst p
   all_covered v worst m p i own = ⊎_elim (λ (k : ⊥). absurd k) (λ gone. gone.0) (m.split p i own)
 
   -- those that arrive when the late packet is due, or later, are due later
@@ -231,7 +233,7 @@ module _ (s : Traffic) (es : List Entry) (g : Gated s es) (q : ℕ) where
       not_before : (a b : ℕ) → b < a → then_by a b (ltb p.flow w.flow) ≡ false
       not_before a b l = grind (arith, nat_tests)
 
-  pub past_covered : (x : Job) (rest : List Job) (v : Service) (worst : Option Job) → past worst x ≡ true → Progress s es q (x ∷ rest) v worst → (p : Packet) → InFirstCycle s es p → queue s p ≡ q → Covered s es worst p
+  pub past_covered : (x : Job) (rest : List Job) (v : Option ℕ) (worst : Option Job) → past worst x ≡ true → Progress s es q (x ∷ rest) v worst → (p : Packet) → InFirstCycle s es p → queue s p ≡ q → Covered s es worst p
   past_covered x rest v None over m p i own = absurd (false≢true over)
   past_covered x rest v (Some w) over m p i own = ⊎_elim
       (λ (k : In (job_of s p) (x ∷ rest)). inr (later_due w p i (reach k)))

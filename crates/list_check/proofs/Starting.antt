@@ -1,8 +1,8 @@
 -- The packets of a queue, before one is served.
-use Rattle.std.proofs.Common.{◌≡◌, ℕ, ◌-◌, ◌*◌, ◌/◌, ◌%◌, ◌<◌, ◌≤◌, Bool, true, false, cond, List, Option, sym, refl, ap, ◌∙◌, inl, ⊎_elim, mod-eq_of_lt, mul-div_cancel, arith}
+use Rattle.std.proofs.Common.{◌≡◌, ℕ, ◌-◌, ◌*◌, ◌/◌, ◌%◌, ◌<◌, ◌≤◌, Bool, true, false, cond, List, Some, Option, sym, refl, ap, ◌∙◌, inl, ⊎_elim, mod-eq_of_lt, mul-div_cancel, arith}
 use native.Mathlib.Nat.{mul-div_cancel', lt_of_mul-lt-mul_left}
 use Rattle.std.proofs.ByRecursion.{All-weaker}
-use Rattle.std.proofs.lemmas.Bool.{cases_Bool, both_ways, or_left}
+use Rattle.std.proofs.lemmas.Bool.{cases_Bool, or_left}
 use Rattle.traffic.specs.declared.flow.Flow.{Flow}
 use Rattle.traffic.specs.declared.packet.Packet.{Packet}
 use Rattle.traffic.specs.declared.packet.Job.{Job}
@@ -17,7 +17,6 @@ use Rattle.sending.proofs.Packets.{some_period}
 use Rattle.coming.specs.Coming.{Due}
 use Rattle.coming.specs.Packets.{packets_before}
 use Rattle.coming.proofs.Arrivals.{packets_due, packets_rise, due_in}
-use Rattle.list_check.specs.declared.service.Service.{Service}
 use Rattle.list_check.specs.Serving.{Gated}
 use Rattle.list_check.specs.Lateness.{KnownLate}
 use Rattle.list_check.specs.Queued.{Of, Queued}
@@ -71,12 +70,11 @@ module _ (s : Traffic) (es : List Entry) (g : Gated s es) (long : ℕ) (round : 
   }
 
 -- nothing is served yet
-pub starting : (s : Traffic) (es : List Entry) (q : ℕ) (xs : List Job) → Queued s es q xs → (v : Service) (worst : Option Job) → v.free ≡ 0 → v.blocked ≡ false → KnownLate s es worst → Progress s es q xs v worst
-starting s es q xs queued v worst free idle known = record {
+pub starting : (s : Traffic) (es : List Entry) (q : ℕ) (xs : List Job) → Queued s es q xs → (free : ℕ) (worst : Option Job) → free ≡ 0 → KnownLate s es worst → Progress s es q xs (Some free) worst
+starting s es q xs queued free worst none known = record {
   all_of = queued.all_of;
   rises = queued.rises;
   known = known;
   split = λ p i own. inl (queued.complete p i own);
-  last = λ _. inl free;
-  stuck = λ b. absurd (both_ways v.blocked idle b);
+  tail = inl none;
 }

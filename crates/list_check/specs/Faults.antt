@@ -1,4 +1,5 @@
 -- What the faults of a check stand for. Assumes nothing.
+use Rattle.std.specs.Prelude.{Some, None, Option, Ok, Err, Result}
 use Rattle.refusal.specs.declared.Refusal.{Refusal}
 use Rattle.sending.specs.Rules.{Broken, wrong_size, wrong_gates, wrong_name, wrong_total}
 use Rattle.list_check.specs.declared.fault.CheckFault.{CheckFault}
@@ -19,3 +20,8 @@ fault_of wrong_size = Size
 fault_of (wrong_gates place) = Gates place
 fault_of (wrong_name place) = Name place
 fault_of wrong_total = Total
+
+-- how a check ends where this is the first broken rule, if one is
+abbrev pub outcome_of : Option Broken → Result (Unit {0}) CheckFault
+outcome_of None = Ok tt
+outcome_of (Some b) = Err (fault_of b)

@@ -1,15 +1,29 @@
 -- The first place in a list at which a packet fits. Assumes nothing.
-use Rattle.std.specs.Prelude.{◌≡◌, ℕ, ◌+◌, ◌≤◌, max, true, cond, List, [], ◌∷◌, length, take, Some, None, Option, nat_le}
+use Rattle.std.specs.Prelude.{◌≡◌, ℕ, ◌+◌, ◌<◌, ◌≤◌, max, true, cond, List, [], ◌∷◌, ◌++◌, Some, None, Option, nat_le}
 use Rattle.std.specs.List.{AllByRecursion}
 use Rattle.gates.specs.declared.entry.Entry.{Entry}
 use Rattle.gates.specs.Open.{opens}
 use Rattle.sending.specs.Rules.{total, well_gated}
 use Rattle.list_check.specs.declared.fit.Cursor.{Cursor}
 
--- a place of a list: so many entries are behind it, and they end when it begins
+-- a place of a list: some entries are in front of it, and they end when it begins
 pub record Placed (es : List Entry) (c : Cursor) : Type 0 where
-  pub within : c.at ≤ length es
-  pub begins : c.opened ≡ total (take c.at es)
+  pub front : List Entry
+  pub parts : es ≡ front ++ c.rest.now
+  pub begins : c.opened ≡ total front
+
+-- the first of these entries, if there is one, ends behind an instant
+abbrev pub EndsBehind : List Entry → (opened from : ℕ) → Type 0
+EndsBehind [] opened from = Unit {0}
+EndsBehind (x ∷ xs) opened from = from < opened + x.interval
+
+-- a place is moved on over the entries that end by an instant, and no further
+pub record Moved (a : Cursor) (from : ℕ) (b : Cursor) : Type 0 where
+  pub front : List Entry
+  pub parts : a.rest.now ≡ front ++ b.rest.now
+  pub begins : b.opened ≡ a.opened + total front
+  pub onward : b.opened ≤ from
+  pub stops : EndsBehind b.rest.now b.opened from
 
 -- a list of a cycle: no longer than a second, each entry well gated
 pub record Sound (es : List Entry) : Type 0 where

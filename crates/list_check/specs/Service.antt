@@ -1,17 +1,9 @@
 -- How a queue is served, packet by packet. Assumes nothing.
-use Rattle.std.specs.Prelude.{◌≡◌, ℕ, ◌+◌, ◌<◌, ◌≤◌, max, Bool, true, false, cond, ◌⊎◌, List, Some, None, Option, nat_le, nat_lt}
+use Rattle.std.specs.Prelude.{◌≡◌, ℕ, ◌+◌, ◌<◌, ◌≤◌, max, Bool, false, cond, ◌⊎◌, List, Some, None, Option, nat_le, nat_lt}
 use Rattle.traffic.specs.declared.packet.Job.{Job}
 use Rattle.traffic.specs.Orders.{then_by}
 use Rattle.gates.specs.declared.entry.Entry.{Entry}
-use Rattle.list_check.specs.declared.service.Service.{Service}
-use Rattle.list_check.specs.Fit.{Placed}
 use Rattle.list_check.specs.Serving.{FirstFit, NoFit}
-
--- the service stands at a place of the list that is not behind the end of its last packet
-pub record Stands (es : List Entry) (v : Service) : Type 0 where
-  pub placed : Placed es v.cursor
-  pub onward : v.cursor.opened ≤ v.free
-  pub early : v.free ≤ 2000000000
 
 -- a packet of a cycle that is no longer than a second
 pub record Bounded (x : Job) : Type 0 where
@@ -20,24 +12,17 @@ pub record Bounded (x : Job) : Type 0 where
   pub some : 0 < x.wire
   pub counted : x.number ≤ 1000000000
 
--- the packet is sent at its first fit t, and ends in time
-pub record Sends (es : List Entry) (x : Job) (a b : Service) (t : ℕ) : Type 0 where
-  pub fit : FirstFit es x.queue (max x.arrival a.free) x.wire t
+-- behind the instant a the packet is sent at its first fit t, and ends at b, in time
+pub record Sends (es : List Entry) (x : Job) (a b t : ℕ) : Type 0 where
+  pub fit : FirstFit es x.queue (max x.arrival a) x.wire t
   pub ends : t + x.wire ≤ x.deadline
-  pub free : b.free ≡ t + x.wire
+  pub free : b ≡ t + x.wire
 
 -- it has no fit, or ends too late
 abbrev pub Misses : List Entry → Job → ℕ → Type 0
 Misses es x free =
     NoFit es x.queue (max x.arrival free) x.wire
     ⊎ ((t : ℕ) × (FirstFit es x.queue (max x.arrival free) x.wire t × (x.deadline < t + x.wire)))
-
--- what serving a packet does: it is sent, or is the first late one, or stands behind a late one
-abbrev pub Serves : List Entry → Job → Service → Service → Bool → Type 0
-Serves es x a b late =
-    ((a.blocked ≡ false) × (b.blocked ≡ false) × (late ≡ false) × ((t : ℕ) × Sends es x a b t))
-    ⊎ (((a.blocked ≡ false) × (b.blocked ≡ true) × (late ≡ true) × Misses es x a.free)
-    ⊎ ((a.blocked ≡ true) × (b.blocked ≡ true) × (late ≡ true)))
 
 -- x is due before y: the earlier deadline, then the smaller flow
 abbrev pub due_before : Job → Job → Bool

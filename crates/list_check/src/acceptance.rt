@@ -6,7 +6,7 @@ ghost use Rattle.list_check.specs.Verdict.{HasFlows, Refused};
 
 use crate::fault::CheckFault;
 use crate::queues::first_late;
-use crate::rules::broken_rule;
+use crate::rules::Lawful;
 use gates::entry::Entry;
 use sheet::sheet::Sheet;
 
@@ -24,10 +24,8 @@ pub fn check<'a>(sheet: &'a Sheet, list: &'a [Entry]) -> Result<Acceptance<'a>, 
     if sheet.flows().is_empty() {
         return Err(CheckFault::EmptySheet);
     }
-    if let Some(fault) = broken_rule(sheet, list) {
-        return Err(fault);
-    }
-    if let Some(x) = first_late(sheet, list) {
+    let lawful = Lawful::of(sheet, list)?;
+    if let Some(x) = first_late(lawful) {
         return Err(CheckFault::Late(x.flow, x.number));
     }
     Ok(Acceptance { sheet, list })

@@ -1,8 +1,7 @@
 // Why a list is not accepted.
 ghost use Rattle.std.specs.Prelude.{◌≡◌};
-ghost use Rattle.list_check.specs.Faults.{refusal_of};
 
-use refusal::Refusal;
+use refusal::{Reason, Refusal};
 
 // Why a list is not accepted. An entry is named by its place, from 1, and a packet by its flow and its number in the cycle.
 #[derive(Clone, Copy, PartialEq, Eq, Debug)]
@@ -15,42 +14,20 @@ pub enum CheckFault {
     Late(u8, u64),
 }
 
-impl CheckFault {
-    // The refusal that a fault is.
-    pub fn refusal(self) -> Refusal
-        ensures { result ≡ refusal_of self }
-    {
-        match self {
-            CheckFault::EmptySheet => Refusal {
-                code: 7,
-                place: 0,
-                number: 0,
-            },
-            CheckFault::Size => Refusal {
-                code: 11,
-                place: 0,
-                number: 0,
-            },
-            CheckFault::Gates(place) => Refusal {
-                code: 12,
-                place,
-                number: 0,
-            },
-            CheckFault::Name(place) => Refusal {
-                code: 13,
-                place,
-                number: 0,
-            },
-            CheckFault::Total => Refusal {
-                code: 14,
-                place: 0,
-                number: 0,
-            },
-            CheckFault::Late(flow, number) => Refusal {
-                code: 15,
-                place: flow as u32,
-                number,
-            },
+// The refusal that a fault is.
+impl From<CheckFault> for Refusal {
+    ghost use Rattle.list_check.specs.Faults.{refusal_of};
+
+    ghost from_gives = { λ fault r. r ≡ refusal_of fault };
+
+    fn from(fault: CheckFault) -> Refusal {
+        match fault {
+            CheckFault::EmptySheet => Refusal::from(Reason::EmptySheet),
+            CheckFault::Size => Refusal::from(Reason::ListSize),
+            CheckFault::Gates(place) => Reason::Gates.at(place),
+            CheckFault::Name(place) => Reason::Name.at(place),
+            CheckFault::Total => Refusal::from(Reason::Total),
+            CheckFault::Late(flow, number) => Reason::NotInTime.of_packet(flow, number),
         }
     }
 }

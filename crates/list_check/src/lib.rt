@@ -6,6 +6,7 @@ ghost use Rattle.list_check.specs.Serving.{SentAtFirstFit};
 pub mod acceptance;
 pub mod fault;
 mod fit;
+mod front;
 mod named;
 mod queues;
 mod rules;

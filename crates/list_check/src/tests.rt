@@ -1,6 +1,7 @@
 // What the check says of examples.
 use crate::acceptance::check as check_list;
 use gates::entry::Entry;
+use refusal::Refusal;
 use sheet::sheet::Sheet;
 
 // One flow, of which every second packet is optional.
@@ -32,7 +33,7 @@ fn told<'x>(sheet: &'x Sheet, list: &'x [Entry]) -> (u8, u32, u64) {
     match check_list(sheet, list) {
         Ok(_) => (0, 0, 0),
         Err(fault) => {
-            let r = fault.refusal();
+            let r = Refusal::from(fault);
             (r.code, r.place, r.number)
         }
     }

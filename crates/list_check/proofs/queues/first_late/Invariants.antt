@@ -9,5 +9,5 @@ use Rattle.list_check.proofs.queues.first_late.Given as goal
 
 abbrev pub invariant-loop-queue : goal.invariant-loop-queue
 invariant-loop-queue l =
-    KnownLate (traffic_of l.sheet) l.list l.late
-    × ((p : Packet) → InFirstCycle (traffic_of l.sheet) l.list p → queue (traffic_of l.sheet) p < l.queue → Covered (traffic_of l.sheet) l.list l.late p)
+    KnownLate (traffic_of l.lawful.sheet.now) l.lawful.list.now l.late
+    × ((p : Packet) → InFirstCycle (traffic_of l.lawful.sheet.now) l.lawful.list.now p → queue (traffic_of l.lawful.sheet.now) p < l.queue → Covered (traffic_of l.lawful.sheet.now) l.lawful.list.now l.late p)
