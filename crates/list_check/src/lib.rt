@@ -15,8 +15,6 @@ mod service;
 mod tests;
 
 // A packet is sent at the first instant at which it fits, once it has arrived and those in front of it in its queue have ended.
-pub fn sent_at_first_fit() -> u8
+pub fn sent_at_first_fit()
     ensures { SentAtFirstFit }
-{
-    0
-}
+{}

@@ -7,11 +7,8 @@ ghost use Rattle.list_check.specs.Faults.{outcome_of};
 
 use crate::fault::CheckFault;
 use crate::front::{Front, note};
-use gates::entry::Entry;
+use gates::entry::{Entry, MOST_ENTRIES};
 use sheet::sheet::Sheet;
-
-// The most entries that a list may have.
-const MOST_ENTRIES: usize = 1024;
 
 // The rule that an entry breaks first, entry by entry.
 fn check_entries(sheet: &Sheet, list: &[Entry]) -> Result<(), CheckFault>

@@ -9,3 +9,4 @@ pub mod Deciding
 pub mod Passing
 pub mod Running
 pub mod Blocking
+mod Steady
