@@ -9,13 +9,13 @@ use crate::entry::Entry;
 mod tests;
 
 // The number of queues, and so of gates.
-const QUEUES: u8 = 8;
+pub const QUEUES: usize = 8;
 
 // Whether `gates` opens the gate of `queue`.
 pub fn opens(gates: u8, queue: u8) -> bool
     ensures { result ≡ opens queue gates }
 {
-    queue < QUEUES && (gates >> queue) % 2 == 1
+    (queue as usize) < QUEUES && (gates >> queue) % 2 == 1
 }
 
 // The entry at an offset of a list, and how much of its interval is left there: none past the list's end.

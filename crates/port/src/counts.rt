@@ -20,7 +20,7 @@ impl Counts {
         Counts::default()
     }
 
-    // One more foreign packet.
+    // One more foreign packet. A count as a parameter would be an enum and a match: this and the next stay two functions.
     pub fn add_foreign(&mut self)
         ensures { counts_of self.new ≡ one_foreign (counts_of self.old) }
     {

@@ -4,11 +4,9 @@ ghost use Rattle.std.specs.List.{slice_get};
 ghost use Rattle.sending.specs.Port.{holds};
 ghost use Rattle.port.specs.Lanes.{queue_at, waiting_of, nothing_waits, LaneJoined, LaneLeft};
 
+use gates::opening::QUEUES;
 use table::owned::Table;
 use traffic::packet::{Job, Packet};
-
-// The number of queues.
-const QUEUES: usize = 8;
 
 // The places of a queue: one for each flow that a sheet may have.
 const PLACES: usize = 64;
