@@ -4,12 +4,11 @@ ghost use Rattle.search.specs.Search.{planned_list};
 ghost use Rattle.search.specs.Packets.{cycle_packets};
 ghost use Rattle.search.specs.Memory.{zero_from, zero_windows, Planned, Searched};
 
-use crate::drawing::draw;
 use crate::fault::SearchFault;
-use crate::queues::Queues;
+use crate::schedule::{MOST_ENTRIES, Schedule};
 use crate::serving::ServingOrder;
 use crate::trials::admit;
-use crate::walk::{MOST_ENTRIES, walk};
+use crate::walk::walk;
 use crate::window::Window;
 use gates::entry::Entry;
 use sheet::sheet::Sheet;
@@ -70,11 +69,10 @@ fn planned<O: ServingOrder>(
         (λ n. Planned (planned_list (O.before order.now) (cycle_packets sheet.now)) n list.old list.new)
         (λ e. planned_list (O.before order.now) (cycle_packets sheet.now) ≡ Err e) }
 {
-    let mut queues = Queues::of(sheet);
-    let placed = walk(sheet, order, &mut queues, windows)?;
-    let tally = admit(sheet, &mut queues, windows, placed);
-    let n = tally.windows;
-    Ok(draw(&windows[0..n], sheet.cycle(), list))
+    let mut schedule = Schedule::new(windows, sheet.cycle());
+    walk(sheet, order, &mut schedule)?;
+    admit(sheet, &mut schedule);
+    Ok(schedule.draw(list))
 }
 
 // Searches a gate list for the sheet under a serving order, and answers its length. The list is then at the start of the
