@@ -1,9 +1,12 @@
 -- One trial: where the packet starts, and what stands after it. Assumes nothing.
-use Rattle.std.proofs.Common.{◌≡◌, ℕ, zero, suc, ◌+◌, ◌<◌, ◌≤◌, max, false, eqb, leb, List, [], ◌∷◌, length, take, drop, sym, refl, ap, ◌∙◌, subst, ⊎_elim, arith}
-use Rattle.std.specs.List.{AllByRecursion}
-use Rattle.std.proofs.lemmas.List.{take-take, take-append-le, length-take-le, length-append}
-use Rattle.std.proofs.ByRecursion.{All-weaker}
-use Rattle.std.proofs.lemmas.Bool.{cases_Bool, le-leb, lt-leb, cond_both, and_right, eq-eqb, eqb-true}
+use Rattle.std.proofs.Common.{◌≡◌, ℕ, zero, suc, ◌+◌, ◌<◌, ◌≤◌, max, false, cond, eqb, leb, List, [], ◌∷◌, length, take, drop, sym, refl, ap, ◌∙◌, subst, ⊎_elim, arith}
+use Rattle.std.specs.List.{AllByRecursion, prefix_len}
+use Rattle.std.proofs.Math.Seq.{take-add}
+use Rattle.std.proofs.Math.Numerals.{one-add}
+use Rattle.std.proofs.lemmas.List.Sums.{prefix_len-le-length}
+use Rattle.std.proofs.lemmas.List.{take-take, take-append-le, length-take-le, length-append, length-drop}
+use Rattle.std.proofs.ByRecursion.{All-append, All-weaker}
+use Rattle.std.proofs.lemmas.Bool.{cases_Bool, leb-true, le-leb, lt-leb, cond_both, and_right, eq-eqb, eqb-true}
 use Rattle.traffic.specs.declared.packet.Job.{Job}
 use Rattle.search.specs.declared.window.Window.{Window}
 use Rattle.search.specs.declared.trials.Room.{Room}
@@ -81,4 +84,26 @@ tried_in n low p ws m q is passed has =
     record {
       last = omega arith;
       passed = passed_inserted (max p.arrival (m.start + p.wire)) n m.place w ws has.onward has.within (passed_later low (max p.arrival (m.start + p.wire)) n ws (omega arith) passed);
+    }
+
+-- the windows behind those that were passed, as far as they end by then
+ended_first : (t : ℕ) (ws : List Window) → AllByRecursion (EndsBy t) (take (prefix_len (λ w. leb (end w) t) ws) ws)
+ended_first t [] = tt
+ended_first t (w ∷ ws) =
+    let n = prefix_len (λ (w : Window). leb (end w) t) ws in
+    let first : ℕ → Type 0 = λ k. AllByRecursion (EndsBy t) (take k (w ∷ ws)) in
+    ⊎_elim
+    (λ e. subst first (sym (ap (λ b. cond b (1 + n) 0) e ∙ one-add n)) (leb-true (end w) t e, ended_first t ws))
+    (λ e. subst first (sym (ap (λ b. cond b (1 + n) 0) e)) tt)
+    (cases_Bool (leb (end w) t))
+
+pub passed_more : (t n : ℕ) (ws : List Window) → Passed t n ws → Passed t (n + prefix_len (λ w. leb (end w) t) (drop n ws)) ws
+passed_more t n ws p =
+    let k = prefix_len (λ (w : Window). leb (end w) t) (drop n ws) in
+    let few = prefix_len-le-length (λ (w : Window). leb (end w) t) (drop n ws) in
+    let long = length-drop n ws in
+    let within = p.within in
+    record {
+      within = omega arith;
+      ended = subst (AllByRecursion (EndsBy t)) (sym (take-add n k ws)) (All-append (EndsBy t) (take n ws) (take k (drop n ws)) p.ended (ended_first t (drop n ws)));
     }

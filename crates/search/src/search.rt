@@ -2,7 +2,7 @@
 ghost use Rattle.std.specs.Prelude.{◌≡◌, ℕ, ◌<◌, ◌≤◌, length, replicate, Err, MatchResult};
 ghost use Rattle.search.specs.Search.{planned_list};
 ghost use Rattle.search.specs.Packets.{cycle_packets};
-ghost use Rattle.search.specs.Memory.{zero_from, zero_windows, Planned, Searched};
+ghost use Rattle.search.specs.Memory.{Planned, Searched};
 
 use crate::fault::SearchFault;
 use crate::schedule::{MOST_ENTRIES, Schedule};
@@ -12,50 +12,6 @@ use crate::walk::walk;
 use crate::window::Window;
 use gates::entry::Entry;
 use sheet::sheet::Sheet;
-use traffic::packet::Job;
-
-// An entry of zeros.
-const NO_ENTRY: Entry = Entry {
-    gates: 0,
-    interval: 0,
-    flow: 0,
-    number: 0,
-};
-
-// A window of zeros.
-const NO_WINDOW: Window = Window {
-    start: 0,
-    packet: Job {
-        flow: 0,
-        number: 0,
-        queue: 0,
-        arrival: 0,
-        deadline: 0,
-        wire: 0,
-        weight: 0,
-    },
-};
-
-// Zero from a place on.
-fn clear_entries(list: &mut [Entry], from: usize)
-    requires { from ≤ length list.old }
-    ensures { list.new ≡ zero_from from list.old }
-{
-    let mut i = from;
-    while i < list.len() {
-        list[i] = NO_ENTRY;
-        i += 1;
-    }
-}
-
-// All windows zero.
-fn clear_windows(windows: &mut [Window])
-    ensures { windows.new ≡ zero_windows windows.old }
-{
-    for w in windows.iter_mut() {
-        *w = NO_WINDOW;
-    }
-}
 
 // Walk, trials and drawing.
 fn planned<O: ServingOrder>(
@@ -92,10 +48,8 @@ pub fn search<O: ServingOrder>(
         return Err(SearchFault::LittleMemory);
     }
     let found = planned(sheet, order, list, windows);
-    clear_windows(windows);
-    match found {
-        Ok(n) => clear_entries(list, n),
-        Err(_) => clear_entries(list, 0),
-    }
+    let drawn = found.unwrap_or(0);
+    list[drawn..].fill(Entry::ZERO);
+    windows.fill(Window::default());
     found
 }

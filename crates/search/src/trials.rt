@@ -1,7 +1,7 @@
 // The optional packets: each is tried at its one start.
-ghost use Rattle.std.specs.Prelude.{◌≡◌, ℕ, ◌+◌, ◌<◌, ◌≤◌, max, length, MatchOption};
-ghost use Rattle.std.specs.List.{AllByRecursion};
-ghost use Rattle.search.specs.Windows.{Fits, latest};
+ghost use Rattle.std.specs.Prelude.{◌≡◌, ℕ, ◌+◌, ◌<◌, ◌≤◌, max, length, MatchOption, nat_le};
+ghost use Rattle.std.specs.List.{All, AllByRecursion, prefix_len};
+ghost use Rattle.search.specs.Windows.{Fits, end, latest};
 ghost use Rattle.search.specs.Search.{admitted, admitted_end, tried};
 ghost use Rattle.search.specs.Packets.{cycle_packets};
 ghost use Rattle.search.specs.Schedules.{FitsJob};
@@ -27,17 +27,21 @@ struct Trials {
     passed: usize,
 }
 
+// How many windows in a row end by the instant `low`.
+fn ended(windows: &[Window], low: u64) -> usize
+    requires { All (λ w. end w ≤ latest) windows.now }
+    ensures { result ≡ prefix_len (λ w. nat_le (end w) low) windows.now }
+{
+    windows.iter().take_while(|w| w.end() <= low).count()
+}
+
 // How many windows end by the instant `low`, where so many are known to.
 fn windows_passed(windows: &[Window], from: usize, low: u64) -> usize
     requires fit { AllByRecursion Fits windows.now }
     requires passed { Passed low from windows.now }
     ensures { Passed low result windows.now }
 {
-    let mut at = from;
-    while at < windows.len() && windows[at].end() <= low {
-        at += 1;
-    }
-    at
+    from + ended(&windows[from..], low)
 }
 
 // The least start from `low` on at which the packet overlaps no window, unless it would be late.
