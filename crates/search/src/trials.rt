@@ -50,16 +50,20 @@ fn room_for(windows: &[Window], from: usize, low: u64, job: &Job) -> Option<Room
     requires passed { Passed low from windows.now }
     ensures { MatchOption result (NoRoom low from job.now windows.now) (HasRoom low from job.now windows.now) }
 {
+    let wire = job.wire as u64;
     let mut start = low;
     let mut place = from;
-    while start + job.wire as u64 <= job.deadline {
-        if place >= windows.len() || start + job.wire as u64 <= windows[place].start {
-            return Some(Room { start, place });
+    for w in &windows[from..] {
+        if start + wire <= w.start || start + wire > job.deadline {
+            break;
         }
-        start = start.max(windows[place].end());
+        start = start.max(w.end());
         place += 1;
     }
-    None
+    if start + wire > job.deadline {
+        return None;
+    }
+    Some(Room { start, place })
 }
 
 // Gives a packet the window with the least start from `low` on, and answers its end. None, with nothing changed,
