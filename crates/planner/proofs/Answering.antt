@@ -14,7 +14,7 @@ use Rattle.gates.specs.Entries.{no_entry}
 use Rattle.gates.specs.Writes.{write_fault}
 use Rattle.search.specs.declared.fault.SearchFault.{SearchFault}
 use Rattle.search.specs.Faults.{search_refusal}
-use Rattle.search.specs.Packets.{packets_before}
+use Rattle.coming.specs.Packets.{packets_before}
 use Rattle.search.specs.Search.{Cycle, planned_list}
 use Rattle.search.specs.Memory.{found, answer_of, list_after}
 use Rattle.planner.specs.Answer.{packets_of_cycle, written, search_answer}

@@ -14,7 +14,7 @@ use Rattle.gates.specs.Writes as writes
 use Rattle.search.specs.declared.fault.SearchFault.{SearchFault}
 use Rattle.search.specs.Faults.{search_refusal}
 use Rattle.search.specs.Serving.{deadline_monotonic}
-use Rattle.search.specs.Packets.{packets_before}
+use Rattle.coming.specs.Packets.{packets_before}
 use Rattle.search.specs.Search.{Cycle, planned_list}
 
 -- the packets of the cycle of a sheet that says this

@@ -17,27 +17,12 @@ use search_laws::lawful_search;
 use sheet::refusals::sheet_refusal;
 use sheet::sheet::Sheet;
 use std::alloc::{AllocError, Global};
-use traffic::packet::Job;
 
 // The records of list and window memory that a search is lent.
 const RECORDS: usize = 1_024;
 
 // More bytes than the text of any list: 1,024 lines of at most 30 bytes.
 const LONGEST_TEXT: usize = 30_720;
-
-// A window of zeros.
-const NO_WINDOW: Window = Window {
-    start: 0,
-    packet: Job {
-        flow: 0,
-        number: 0,
-        queue: 0,
-        arrival: 0,
-        deadline: 0,
-        wire: 0,
-        weight: 0,
-    },
-};
 
 // The lines of a refusal.
 fn refused(heap: Global, refusal: Refusal) -> Result<Vec<u8>, AllocError>
@@ -77,7 +62,7 @@ fn found_in(
 {
     match lawful_search(sheet, &DeadlineMonotonic, list, windows) {
         Ok(n) => list_text(heap, &list[0..n]),
-        Err(fault) => refused(heap, fault.refusal()),
+        Err(fault) => refused(heap, Refusal::from(fault)),
     }
 }
 
@@ -87,7 +72,7 @@ fn answer(heap: Global, sheet: &Sheet) -> Result<Vec<u8>, AllocError>
     ensures { IfOk result (λ v. v.items ≡ sheet_answer (traffic_of sheet.now)) }
 {
     let mut list = vec![in heap; Entry::ZERO; RECORDS]?;
-    let mut windows = vec![in heap; NO_WINDOW; RECORDS]?;
+    let mut windows = vec![in heap; Window::default(); RECORDS]?;
     found_in(heap, sheet, list.as_mut_slice(), windows.as_mut_slice())
 }
 

@@ -1,20 +1,19 @@
 -- One trial: where the packet starts, and what stands after it. Assumes nothing.
-use Rattle.std.proofs.Common.{◌≡◌, ℕ, zero, suc, ◌+◌, ◌<◌, ◌≤◌, max, false, eqb, leb, List, [], ◌∷◌, length, take, drop, sym, refl, ap, ◌∙◌, subst, ⊎_elim, arith}
-use Rattle.std.specs.List.{AllByRecursion}
+use Rattle.std.proofs.Common.{◌≡◌, ℕ, zero, suc, ◌+◌, ◌<◌, ◌≤◌, max, false, cond, eqb, leb, List, [], ◌∷◌, length, take, drop, sym, refl, ap, ◌∙◌, subst, ⊎_elim, arith}
+use Rattle.std.specs.List.{AllByRecursion, prefix_len}
+use Rattle.std.proofs.Math.Seq.{take-add}
+use Rattle.std.proofs.Math.Numerals.{one-add}
+use Rattle.std.proofs.lemmas.List.Sums.{prefix_len-le-length}
 use Rattle.std.proofs.lemmas.List.{take-take, take-append-le, length-take-le, length-append, length-drop}
-use Rattle.std.proofs.ByRecursion.{All-weaker}
-use Rattle.std.proofs.lemmas.Bool.{cases_Bool, le-leb, lt-leb, cond_both, and_right, eq-eqb, eqb-true}
+use Rattle.std.proofs.ByRecursion.{All-append, All-weaker}
+use Rattle.std.proofs.lemmas.Bool.{cases_Bool, leb-true, le-leb, lt-leb, cond_both, and_right, eq-eqb, eqb-true}
 use Rattle.traffic.specs.declared.packet.Job.{Job}
-use Rattle.table.specs.Calls.{Put}
 use Rattle.search.specs.declared.window.Window.{Window}
 use Rattle.search.specs.declared.trials.Room.{Room}
-use Rattle.search.specs.declared.trials.Trials.{Trials}
-use Rattle.search.specs.Windows.{Fits, Apart, end, latest, starts_before}
+use Rattle.search.specs.Windows.{Fits, end, latest}
 use Rattle.search.specs.Drawn.{drawn, inserted_at}
 use Rattle.search.specs.Search.{most_entries, room, admitted_end, trial, inserted, admissible, tried}
-use Rattle.search.specs.Tallies.{FitsJob, standing}
 use Rattle.search.specs.Trials.{EndsBy, Passed, HasRoom, Tried}
-use Rattle.search.proofs.Inserts.{placed-there, start_before, inserted_tally}
 use Rattle.search.proofs.Rooms.{room_passed, room_from}
 
 -- admitted windows end early
@@ -71,54 +70,40 @@ passed_inserted t n i w ws h within p = record {
   ended = subst (AllByRecursion (EndsBy t)) (sym (take_inserted n i w ws h within)) p.ended;
 }
 
--- a packet is passed over
-pub tried-over : (long n low : ℕ) (ms : List Window) (t : Trials) (p : Job) → Tried long p.arrival ms t → low ≡ max p.arrival t.last → Passed low n (standing ms t.tally) → Tried long p.arrival ms (record { tally = t.tally; last = t.last; passed = n })
-tried-over long n low ms t p ok is passed = record { tally = ok.tally; last = ok.last; passed = subst (λ (k : ℕ). Passed k n (standing ms t.tally)) is passed }
+-- the packet's room is its trial's window
+pub trial-is : (n low : ℕ) (p : Job) (ws : List Window) (m : Room) → 0 < p.wire → low ≡ max p.arrival (admitted_end ws) → Passed low n ws → HasRoom low n p ws m → record { start = m.start; packet = p } ≡ trial p ws
+trial-is n low p ws m some is passed has = ap (λ (k : ℕ). record { start = k; packet = p }) (has.start ∙ trial_start n low p ws some is passed)
 
--- what a packet's room says of its trial
-pub record Trying (long n low : ℕ) (p : Job) (ws : List Window) (m : Room) : Type 0 where
-  pub is : record { start = m.start; packet = p } ≡ trial p ws
-  pub there : inserted (trial p ws) ws ≡ inserted_at m.place (record { start = m.start; packet = p }) ws
-  pub in_time : end (trial p ws) ≤ p.deadline
-
-pub trying : (long n low : ℕ) (p : Job) (ws : List Window) (m : Room) → FitsJob p → Apart 0 ws latest → low ≡ max p.arrival (admitted_end ws) → Passed low n ws → HasRoom low n p ws m → Trying long n low p ws m
-trying long n low p ws m fits apart is passed has =
+-- after a packet is admitted
+pub tried_in : (n low : ℕ) (p : Job) (ws : List Window) (m : Room) → p.queue ≡ 0 → low ≡ max p.arrival (admitted_end ws) → Passed low n ws → HasRoom low n p ws m →
+    Tried p.arrival (inserted_at m.place (record { start = m.start; packet = p }) ws) (record { last = m.start + p.wire; passed = n })
+tried_in n low p ws m q is passed has =
     let w : Window = record { start = m.start; packet = p } in
-    let start : m.start ≡ (trial p ws).start = has.start ∙ trial_start n low p ws fits.some_wire is passed in
-    let same : w ≡ trial p ws = ap (λ (k : ℕ). record { start = k; packet = p }) start in
-    let there : inserted w ws ≡ inserted_at m.place w ws = placed-there 0 latest m.place w ws apart has.front (start_before w (drop m.place ws) fits.some_wire has.back) in
-    let in_time = has.in_time in
-    record { is = same; there = ap (λ (v : Window). inserted v ws) (sym same) ∙ there; in_time = omega arith }
-
--- a packet is admitted
-pub tried_in : (long n low e more : ℕ) (ms ns : List Window) (t : Trials) (p : Job) (m : Room) →
-    Tried long p.arrival ms t → FitsJob p → p.queue ≡ 0 → low ≡ max p.arrival t.last → Passed low n (standing ms t.tally) → HasRoom low n p (standing ms t.tally) m →
-    e ≡ length (drawn 0 (inserted_at m.place (record { start = m.start; packet = p }) (standing ms t.tally)) long) → e ≤ most_entries → length ns ≡ length ms →
-    Put starts_before (record { start = m.start; packet = p }) t.tally.windows ms ns more →
-    Tried long p.arrival ns (record { tally = record { windows = more; entries = e }; last = m.start + p.wire; passed = n })
-    × (standing ns (record { windows = more; entries = e }) ≡ tried long p (standing ms t.tally))
-tried_in long n low e more ms ns t p m ok fits q is passed has count few same put =
-    let ws = standing ms t.tally in
-    let w : Window = record { start = m.start; packet = p } in
-    let low-is : low ≡ max p.arrival (admitted_end ws) = is ∙ ap (max p.arrival) ok.last in
-    let tr = trying long n low p ws m fits ok.tally.apart low-is passed has in
-    let all = inserted_tally long m.place e more ms ns t.tally w ok.tally fits has.in_time has.front has.back count few same put in
     let onto = admitted-inserted m.place w ws q in
     let onward : low ≤ m.start = subst (λ (k : ℕ). low ≤ k) (sym has.start) (room_from low p.wire (drop n ws)) in
-    let ends : admitted_end (inserted_at m.place w ws) ≡ m.start + p.wire = omega arith in
-    let last-is : m.start + p.wire ≡ admitted_end (standing ns (record { windows = more; entries = e })) = sym ends ∙ ap admitted_end (sym all.0) in
-    let small : length (drawn 0 (inserted (trial p ws) ws) long) ≤ most_entries = subst (λ (zs : List Window). length (drawn 0 zs long) ≤ most_entries) (sym tr.there) (omega arith) in (
-      record {
-        tally = all.1;
-        last = last-is;
-        passed = subst (Passed (max p.arrival (m.start + p.wire)) n) (sym all.0) (passed_inserted (max p.arrival (m.start + p.wire)) n m.place w ws has.onward has.within (passed_later low (max p.arrival (m.start + p.wire)) n ws (omega arith) passed));
-      },
-      all.0 ∙ sym tr.there ∙ sym (tried_ok long p ws tr.in_time small),
-    )
+    record {
+      last = omega arith;
+      passed = passed_inserted (max p.arrival (m.start + p.wire)) n m.place w ws has.onward has.within (passed_later low (max p.arrival (m.start + p.wire)) n ws (omega arith) passed);
+    }
 
-pub length-inserted_at : (i : ℕ) (w : Window) (ws : List Window) → i ≤ length ws → length (inserted_at i w ws) ≡ length ws + 1
-length-inserted_at i w ws h =
-    let front = length-take-le i ws h in
-    let back = length-drop i ws in
-    let all = length-append (take i ws) (w ∷ drop i ws) in
-    omega arith
+-- the windows behind those that were passed, as far as they end by then
+ended_first : (t : ℕ) (ws : List Window) → AllByRecursion (EndsBy t) (take (prefix_len (λ w. leb (end w) t) ws) ws)
+ended_first t [] = tt
+ended_first t (w ∷ ws) =
+    let n = prefix_len (λ (w : Window). leb (end w) t) ws in
+    let first : ℕ → Type 0 = λ k. AllByRecursion (EndsBy t) (take k (w ∷ ws)) in
+    ⊎_elim
+    (λ e. subst first (sym (ap (λ b. cond b (1 + n) 0) e ∙ one-add n)) (leb-true (end w) t e, ended_first t ws))
+    (λ e. subst first (sym (ap (λ b. cond b (1 + n) 0) e)) tt)
+    (cases_Bool (leb (end w) t))
+
+pub passed_more : (t n : ℕ) (ws : List Window) → Passed t n ws → Passed t (n + prefix_len (λ w. leb (end w) t) (drop n ws)) ws
+passed_more t n ws p =
+    let k = prefix_len (λ (w : Window). leb (end w) t) (drop n ws) in
+    let few = prefix_len-le-length (λ (w : Window). leb (end w) t) (drop n ws) in
+    let long = length-drop n ws in
+    let within = p.within in
+    record {
+      within = omega arith;
+      ended = subst (AllByRecursion (EndsBy t)) (sym (take-add n k ws)) (All-append (EndsBy t) (take n ws) (take k (drop n ws)) p.ended (ended_first t (drop n ws)));
+    }

@@ -2,19 +2,18 @@
 use Rattle.std.proofs.Common.{◌≡◌, ℕ, zero, suc, ◌+◌, ◌<◌, ◌≤◌, true, false, not, ltb, List, [], ◌∷◌, ◌++◌, length, take, drop, Ok, Err, sym, refl, ap, ◌∙◌, subst, ⊎_elim, arith}
 use Rattle.std.specs.List.{AllByRecursion}
 use Rattle.std.proofs.ByRecursion.{All-append, All-take, All-drop}
-use Rattle.std.proofs.lemmas.List.{take_all, drop_all}
+use Rattle.std.proofs.lemmas.List.{take_all, drop_all, length-take-le, length-append, length-drop}
 use Rattle.std.proofs.lemmas.Bool.{cases_Bool, and_from, le-ltb, lt-ltb, ltb-true, ltb-false}
 use Rattle.std.proofs.lemmas.Bool.Decides.{nat_tests}
 use Rattle.table.specs.Order.{in_order, none_before, placed, placed_last}
 use Rattle.table.specs.Calls.{Put}
 use Rattle.table.proofs.Places.{placed_last-is}
 use Rattle.search.specs.declared.window.Window.{Window}
-use Rattle.search.specs.declared.walk.Tally.{Tally}
 use Rattle.search.specs.Windows.{Fits, Apart, end, last_end, first_start, latest, starts_before}
 use Rattle.search.specs.Drawn.{drawn, entry, inserted_at}
 use Rattle.search.specs.declared.fault.SearchFault.TheVariants.{Late, TooLong}
-use Rattle.search.specs.Search.{most_entries, placed_next}
-use Rattle.search.specs.Tallies.{FitsJob, Tallied, standing}
+use Rattle.search.specs.Search.{most_entries, inserted, placed_next}
+use Rattle.search.specs.Schedules.{Tallied, GoesAt}
 use Rattle.search.proofs.Entries.{length-closed}
 
 -- the last of them ends after the first instant, and by the last one
@@ -73,6 +72,13 @@ apart_inserted a b (suc i) w (v ∷ vs) h front back = (h.0, apart_inserted (end
 pub all_inserted : (P : Window → Type 0) (i : ℕ) (w : Window) (ws : List Window) → P w → AllByRecursion P ws → AllByRecursion P (inserted_at i w ws)
 all_inserted P i w ws p ps = All-append P (take i ws) (w ∷ drop i ws) (All-take P i ws ps) (p, All-drop P i ws ps)
 
+pub length-inserted_at : (i : ℕ) (w : Window) (ws : List Window) → i ≤ length ws → length (inserted_at i w ws) ≡ length ws + 1
+length-inserted_at i w ws h =
+    let front = length-take-le i ws h in
+    let back = length-drop i ws in
+    let all = length-append (take i ws) (w ∷ drop i ws) in
+    omega arith
+
 -- each window has an entry
 pub fewer_windows : (a b : ℕ) (ws : List Window) → length ws ≤ length (drawn a ws b)
 fewer_windows a b [] = omega arith
@@ -86,26 +92,32 @@ pub start_before : (w : Window) (ws : List Window) → 0 < w.packet.wire → end
 start_before w [] some h = omega arith
 start_before w (v ∷ vs) some h = omega arith
 
--- the tally after one window more
-pub inserted_tally : (long i e more : ℕ) (ms ns : List Window) (t : Tally) (w : Window) →
-    Tallied long ms t → FitsJob w.packet → end w ≤ w.packet.deadline →
-    last_end 0 (take i (standing ms t)) ≤ w.start → end w ≤ first_start (drop i (standing ms t)) latest →
-    e ≡ length (drawn 0 (inserted_at i w (standing ms t)) long) → e ≤ most_entries → length ns ≡ length ms →
-    Put starts_before w t.windows ms ns more →
-    (standing ns (record { windows = more; entries = e }) ≡ inserted_at i w (standing ms t)) × Tallied long ns (record { windows = more; entries = e })
-inserted_tally long i e more ms ns t w ok fits in_time front back count few same put =
-    let ws = standing ms t in
-    let is : standing ns (record { windows = more; entries = e }) ≡ inserted_at i w ws =
-    ap (λ (k : ℕ). take k ns) put.count ∙ put.holds ∙ placed_last-there 0 latest i w ws ok.apart front (start_before w (drop i ws) fits.some_wire back) in
+pub goes_there : (i : ℕ) (w : Window) (ws : List Window) → Apart 0 ws latest → GoesAt i w ws → inserted w ws ≡ inserted_at i w ws
+goes_there i w ws apart goes = placed-there 0 latest i w ws apart goes.front (start_before w (drop i ws) goes.fits.some_wire goes.back)
+
+-- what is known of the memory after one window more
+pub inserted_tally : (long i e more n entries : ℕ) (ms ns : List Window) (w : Window) →
+    Tallied long ms n entries → GoesAt i w (take n ms) →
+    e ≡ length (drawn 0 (inserted_at i w (take n ms)) long) → e ≤ most_entries → length ns ≡ length ms →
+    Put starts_before w n ms ns more →
+    (take more ns ≡ inserted_at i w (take n ms)) × Tallied long ns more e
+inserted_tally long i e more n entries ms ns w ok goes count few same put =
+    let ws = take n ms in
+    let is : take more ns ≡ inserted_at i w ws =
+    ap (λ (k : ℕ). take k ns) put.count ∙ put.holds ∙ placed_last-there 0 latest i w ws ok.apart goes.front (start_before w (drop i ws) goes.fits.some_wire goes.back) in
     let room = put.room in
-    let n = put.count in
-    let early = fits.early in
-    let one : Fits w = record { early = omega arith; queued = fits.queued; numbered = fits.numbered } in (
+    let next = put.count in
+    let early = goes.fits.early in
+    let in_time = goes.in_time in
+    let memory = ok.memory in
+    let one : Fits w = record { early = omega arith; queued = goes.fits.queued; numbered = goes.fits.numbered } in (
       is,
       record {
+        memory = omega arith;
+        short = ok.short;
         within = omega arith;
         fit = subst (AllByRecursion Fits) (sym is) (all_inserted Fits i w ws one ok.fit);
-        apart = subst (λ (zs : List Window). Apart 0 zs latest) (sym is) (apart_inserted 0 latest i w ws ok.apart front back);
+        apart = subst (λ (zs : List Window). Apart 0 zs latest) (sym is) (apart_inserted 0 latest i w ws ok.apart goes.front goes.back);
         count = count ∙ ap (λ (zs : List Window). length (drawn 0 zs long)) (sym is);
         few = few;
       },
@@ -125,15 +137,15 @@ placed_long long ws w h long-list = rw (le-ltb w.packet.deadline (end w) h, lt-l
 pub placed_ok : (long : ℕ) (ws : List Window) (w : Window) → end w ≤ w.packet.deadline → length (drawn 0 (ws ++ (w ∷ [])) long) ≤ most_entries → placed_next long ws w ≡ Ok (ws ++ (w ∷ []))
 placed_ok long ws w h few = rw (le-ltb w.packet.deadline (end w) h, le-ltb most_entries (length (drawn 0 (ws ++ (w ∷ [])) long)) few)
 
--- and what is placed stands at the end
-pub placed-is : (long : ℕ) (ws zs : List Window) (w : Window) → placed_next long ws w ≡ Ok zs → zs ≡ ws ++ (w ∷ [])
+-- and what is placed stands at the end, in time
+pub placed-is : (long : ℕ) (ws zs : List Window) (w : Window) → placed_next long ws w ≡ Ok zs → (zs ≡ ws ++ (w ∷ [])) × (end w ≤ w.packet.deadline)
 placed-is long ws zs w e =
     ⊎_elim
-    (λ late. let h : Err (Late w.packet.flow w.packet.number) ≡ Ok zs = sym (placed_late long ws w (ltb-true w.packet.deadline (end w) late)) ∙ e in cc)
+    (λ late. let h : Err (Late w.packet.flow w.packet.number) ≡ Ok zs = sym (placed_late long ws w (ltb-true w.packet.deadline (end w) late)) ∙ e in let z : ◌≡◌ {A = ℕ} 0 1 = cc in absurd (omega arith))
     (λ early.
     let to = ltb-false w.packet.deadline (end w) early in
     ⊎_elim
-    (λ big. let h : Err (TooLong w.packet.flow w.packet.number) ≡ Ok zs = sym (placed_long long ws w to (ltb-true most_entries (length (drawn 0 (ws ++ (w ∷ [])) long)) big)) ∙ e in cc)
-    (λ few. let h : Ok (ws ++ (w ∷ [])) ≡ Ok zs = sym (placed_ok long ws w to (ltb-false most_entries (length (drawn 0 (ws ++ (w ∷ [])) long)) few)) ∙ e in cc)
+    (λ big. let h : Err (TooLong w.packet.flow w.packet.number) ≡ Ok zs = sym (placed_long long ws w to (ltb-true most_entries (length (drawn 0 (ws ++ (w ∷ [])) long)) big)) ∙ e in let z : ◌≡◌ {A = ℕ} 0 1 = cc in absurd (omega arith))
+    (λ few. let h : Ok (ws ++ (w ∷ [])) ≡ Ok zs = sym (placed_ok long ws w to (ltb-false most_entries (length (drawn 0 (ws ++ (w ∷ [])) long)) few)) ∙ e in (cc, to))
     (cases_Bool (ltb most_entries (length (drawn 0 (ws ++ (w ∷ [])) long)))))
     (cases_Bool (ltb w.packet.deadline (end w)))

@@ -1,20 +1,18 @@
 -- What is known of the walk's next window. Assumes nothing.
-use Rattle.std.proofs.Common.{◌≡◌, ℕ, zero, suc, ◌<◌, ◌≤◌, max, Bool, true, leb, List, [], ◌∷◌, take, Some, None, Option, sym, refl, ap, subst, ⊎_elim, arith, MatchOption}
+use Rattle.std.proofs.Common.{◌≡◌, ℕ, zero, suc, ◌<◌, ◌≤◌, max, Bool, true, eqb, leb, List, [], ◌∷◌, length, take, drop, Some, None, Option, sym, refl, ap, subst, arith}
 use Rattle.std.specs.List.{AllByRecursion}
-use Rattle.std.proofs.ByRecursion.{All-append, All-take, All-map, all_kept_by, All-weaker}
-use Rattle.std.proofs.lemmas.Bool.{cond_both, cases_eq}
+use Rattle.std.proofs.ByRecursion.{All-append, All-take, All-drop, all_kept_by, All-weaker}
+use Rattle.std.proofs.lemmas.Bool.{cond_both}
 use Rattle.traffic.specs.declared.packet.Job.{Job}
 use Rattle.traffic.specs.Packets.{Traffic}
 use Rattle.sheet.specs.Ranges.{all_kept}
-use Rattle.search.specs.declared.coming.Next.{Next}
-use Rattle.search.specs.declared.queues.Queues.{Queues}
+use Rattle.coming.specs.Coming.{Due}
+use Rattle.coming.proofs.Dues.{due_bounds}
+use Rattle.coming.proofs.Arrivals.{packets_due}
 use Rattle.search.specs.declared.window.Window.{Window}
-use Rattle.search.specs.Coming.{Due, Comes, Lined, Stepped, held, packet_of}
-use Rattle.search.specs.Search.{firsts, first_of, sooner, arrived, least_arrival, window_at, next}
-use Rattle.search.specs.Queues.{queue_at, nexts, AllCome, AllBuilt, OthersStay}
-use Rattle.search.specs.Tallies.{FitsJob}
-use Rattle.search.proofs.Dues.{due_bounds}
-use Rattle.search.proofs.Steps.{stepped, built_lined}
+use Rattle.search.specs.Search.{firsts, first_of, sooner, arrived, least_arrival, window_at, next, without}
+use Rattle.search.specs.Queues.{left_in, AllLeft}
+use Rattle.search.specs.Schedules.{FitsJob}
 
 -- what holds of two packets holds of the sooner one
 sooner_all : (P : Job → Type 0) (b : Job → Job → Bool) (x : Job) (o : Option Job) → P x → ((y : Job) → o ≡ Some y → P y) → P (sooner b x o)
@@ -66,27 +64,46 @@ pub record Mandatory (s : Traffic) (long : ℕ) (x : Job) : Type 0 where
   pub some : 0 < x.queue
   pub most : x.queue ≤ 7
 
-pub firsts-mandatory : (s : Traffic) (long : ℕ) (qs : Queues) → AllCome s long qs → AllByRecursion (Mandatory s long) (firsts (nexts qs) 7)
-firsts-mandatory s long qs come =
-    firsts_all (Mandatory s long) (nexts qs) 7 (λ q a b.
-    let c = come q (omega arith) in
-    All-map (Mandatory s long) packet_of (held (queue_at qs q))
-    (All-weaker (λ (n : Next). Due s long q n.packet) (λ (n : Next). Mandatory s long n.packet)
-    (λ n d. let is = d.waits in record { due = subst (λ (r : ℕ). Due s long r n.packet) (sym is) d; some = omega arith; most = omega arith }) (held (queue_at qs q)) c.lined.due))
+-- in the queues 1 to 7 packets of the cycle are left
+abbrev pub AllDue : Traffic → ℕ → (ℕ → List Job) → Type 0
+AllDue s long f = (q : ℕ) → 0 < q → q ≤ 7 → AllByRecursion (Due s long q) (f q)
+
+pub built_due : (s : Traffic) (long : ℕ) (qs : List (List Job)) → AllLeft s long qs → AllDue s long (left_in qs)
+built_due s long qs left q some most = subst (AllByRecursion (Due s long q)) (sym (left.all q some most)) (packets_due s q long)
+
+pub due_without : (s : Traffic) (long r : ℕ) (f : ℕ → List Job) → AllDue s long f → AllDue s long (without r f)
+due_without s long r f due q some most = cond_both (eqb q r) (drop 1 (f q)) (f q) (AllByRecursion (Due s long q)) (λ _. All-drop (Due s long q) 1 (f q) (due q some most)) (λ _. due q some most)
+
+firsts-mandatory : (s : Traffic) (long : ℕ) (f : ℕ → List Job) → AllDue s long f → AllByRecursion (Mandatory s long) (firsts f 7)
+firsts-mandatory s long f due =
+    firsts_all (Mandatory s long) f 7 (λ q a b.
+    All-weaker (Due s long q) (Mandatory s long) (λ x d. let is = d.waits in record { due = subst (λ (r : ℕ). Due s long r x) (sym is) d; some = omega arith; most = omega arith }) (f q) (due q a b))
+
+-- the same facts of all of a list where it has one
+all_some : {X : Type 0} (P : X → Type 0) (xs : List X) → (0 < length xs → AllByRecursion P xs) → AllByRecursion P xs
+all_some P [] h = tt
+all_some P (x ∷ xs) h = h (omega arith)
 
 -- the next window of the walk
-pub record NextFacts (s : Traffic) (long t : ℕ) (w : Window) : Type 0 where
+pub record NextFacts (s : Traffic) (long t : ℕ) (f : ℕ → List Job) (w : Window) : Type 0 where
   pub mandatory : Mandatory s long w.packet
   pub onward : t ≤ w.start
   pub early : w.start ≤ max t long
+  pub left : 0 < length (f w.packet.queue)
 
-pub next_facts : (s : Traffic) (long : ℕ) (qs : Queues) (b : Job → Job → Bool) (t : ℕ) (w : Window) → AllCome s long qs → next b t (firsts (nexts qs) 7) ≡ Some w → NextFacts s long t w
-next_facts s long qs b t w come e =
-    let xs = firsts (nexts qs) 7 in
-    let all = firsts-mandatory s long qs come in
+pub next_facts : (s : Traffic) (long : ℕ) (f : ℕ → List Job) (b : Job → Job → Bool) (t : ℕ) (w : Window) → AllDue s long f → next b t (firsts f 7) ≡ Some w → NextFacts s long t f w
+next_facts s long f b t w due e =
+    let xs = firsts f 7 in
+    let all = firsts-mandatory s long f due in
     let low : AllByRecursion (λ (p : Job). p.arrival ≤ long) xs = All-weaker (Mandatory s long) (λ (p : Job). p.arrival ≤ long) (λ p m. let d = m.due.early in omega arith) xs all in
     let start = next_start b t long xs w e low in
-    record { mandatory = next_all (Mandatory s long) b t xs w e all; onward = start.0; early = start.1 }
+    let has : Job → Type 0 = λ p. 0 < length (f p.queue) in
+    record {
+      mandatory = next_all (Mandatory s long) b t xs w e all;
+      onward = start.0;
+      early = start.1;
+      left = next_all has b t xs w e (firsts_all has f 7 (λ q a c. all_some has (f q) (λ some. All-weaker (Due s long q) has (λ p d. subst (λ (k : ℕ). 0 < length (f k)) (sym d.waits) some) (f q) (due q a c))));
+    }
 
 -- the numbers of a packet to come fit a window
 pub due_fits : (s : Traffic) (long q : ℕ) (x : Job) → all_kept s.rate s.flows ≡ true → long ≤ 1000000000 → Due s long q x → FitsJob x
@@ -97,21 +114,3 @@ due_fits s long q x kept short d =
     let number = b.number_most in
     let queue = b.queue_most in
     record { early = omega arith; queued = omega arith; numbered = omega arith; some_wire = b.wire_some }
-
--- after one packet was taken all queues still hold packets to come
-pub come_again : (s : Traffic) (long q : ℕ) (qs ps : Queues) (r : Option Job) → AllCome s long qs → q < 8 →
-    MatchOption r ((held (queue_at qs q) ≡ []) × (held (queue_at ps q) ≡ [])) (λ x. Stepped s long q x (held (queue_at qs q)) (held (queue_at ps q))) →
-    (queue_at ps q).len ≤ 64 → OthersStay q qs ps → AllCome s long ps
-come_again s long q qs ps r come below took few others k within =
-    ⊎_elim
-    (λ (e : k ≡ q). subst (λ (i : ℕ). Comes s long i (queue_at ps i)) (sym e) (here r took))
-    (λ (ne : k ≡ q → ⊥). subst (Comes s long k) (sym (others k ne)) (come k within))
-    (cases_eq k q)
-  where
-    here : (r : Option Job) → MatchOption r ((held (queue_at qs q) ≡ []) × (held (queue_at ps q) ≡ [])) (λ x. Stepped s long q x (held (queue_at qs q)) (held (queue_at ps q))) → Comes s long q (queue_at ps q)
-    here None t = record { few = few; lined = subst (Lined s long q) (sym t.1) (record { due = tt; ordered = refl; once = tt }) }
-    here (Some x) t = record { few = few; lined = (stepped s long q x (held (queue_at qs q)) (held (queue_at ps q)) (come q below).lined t).lined }
-
--- the first packets of the flows are packets to come
-pub built_come : (s : Traffic) (long : ℕ) (qs : Queues) → AllBuilt s long qs → AllCome s long qs
-built_come s long qs built q within = let b = built q within in record { few = b.1; lined = (built_lined s long q _ (held (queue_at qs q)) b.0).0 }

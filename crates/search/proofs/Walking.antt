@@ -1,40 +1,42 @@
 -- The walk by what is left of the queues. Assumes nothing.
-use Rattle.std.proofs.Common.{◌≡◌, ℕ, zero, suc, ◌<◌, ◌≤◌, Bool, true, cond, ltb, List, [], ◌∷◌, ◌++◌, length, take, drop, Some, None, Ok, Err, Option, Result, sym, refl, ap, ◌∙◌, subst, ⊎_elim, arith, MatchOption}
-use Rattle.std.specs.List.{AllByRecursion}
-use Rattle.std.proofs.ByRecursion.{All-weaker, all_kept_by}
-use Rattle.std.proofs.lemmas.Bool.{cases_Bool, cases_eq, cases_lt, eq-eqb, ne_eqb, ltb-true, ltb-false}
-use Rattle.std.proofs.lemmas.List.{get_or_past}
+use Rattle.std.proofs.Common.{◌≡◌, ℕ, zero, suc, ◌<◌, ◌≤◌, Bool, cond, ltb, List, [], ◌∷◌, ◌++◌, length, drop, Some, None, Ok, Err, Option, Result, sym, refl, ap, ◌∙◌, subst, ⊎_elim, arith}
+use Rattle.std.proofs.lemmas.Bool.{cases_Bool, cases_eq, eq-eqb, ne_eqb, ltb-true, ltb-false}
 use Rattle.traffic.specs.declared.packet.Job.{Job}
-use Rattle.traffic.specs.Packets.{Traffic}
-use Rattle.sheet.specs.Ranges.{all_kept}
-use Rattle.search.specs.declared.queues.Queues.{Queues}
 use Rattle.search.specs.declared.window.Window.{Window}
 use Rattle.search.specs.declared.fault.SearchFault.{SearchFault}
-use Rattle.search.specs.declared.coming.Next.{Next}
 use Rattle.search.specs.declared.fault.SearchFault.TheVariants.{Late, TooLong}
 use Rattle.search.specs.Faults.{InWalk}
 use Rattle.search.specs.Windows.{end}
 use Rattle.search.specs.Drawn.{drawn}
 use Rattle.search.proofs.Inserts.{placed_late, placed_long, placed_ok}
-use Rattle.search.specs.Coming.{Due, Stepped, held}
 use Rattle.search.specs.Search.{most_entries, firsts, next, without, placed_next, and_then, turn, walked, walked_over, count, admitted, Cycle, planned_list}
-use Rattle.search.specs.Queues.{queue_at, no_queue, nexts, AllCome, AllBuilt, OthersStay}
-use Rattle.search.specs.Packets.{packets_before}
-use Rattle.search.specs.Left.{to_come, left, lefts}
-use Rattle.search.proofs.Dues.{due_bounds}
-use Rattle.search.proofs.Arrivals.{packets_due}
-use Rattle.search.proofs.Lefts.{left_step, left-first, left_none, left_all}
-use Rattle.search.proofs.Nexts.{next_all, firsts_all}
 
--- only the first packet of each queue counts
-firsts_like : (f g : ℕ → List Job) (n : ℕ) → ((q : ℕ) → q ≤ n → take 1 (f q) ≡ take 1 (g q)) → firsts f n ≡ firsts g n
-firsts_like f g zero h = refl
-firsts_like f g (suc q) h = ap (λ (xs : List Job). xs ++ firsts f q) (h (suc q) (omega arith)) ∙ ap (λ (xs : List Job). take 1 (g (suc q)) ++ xs) (firsts_like f g q (λ r l. h r (omega arith)))
+-- the walk hangs on the queues 1 to 7 alone
+abbrev pub Like : (ℕ → List Job) → (ℕ → List Job) → Type 0
+Like f g = (q : ℕ) → 0 < q → q ≤ 7 → f q ≡ g q
 
--- the same facts of all of a list where it has one
-all_some : {X : Type 0} (P : X → Type 0) (xs : List X) → (0 < length xs → AllByRecursion P xs) → AllByRecursion P xs
-all_some P [] h = tt
-all_some P (x ∷ xs) h = h (omega arith)
+firsts_like : (f g : ℕ → List Job) (n : ℕ) → n ≤ 7 → Like f g → firsts f n ≡ firsts g n
+firsts_like f g zero h e = refl
+firsts_like f g (suc n) h e = let a = e (suc n) (omega arith) h in let b = firsts_like f g n (omega arith) e in rw (a, b)
+
+count_like : (f g : ℕ → List Job) (n : ℕ) → n ≤ 7 → Like f g → count f n ≡ count g n
+count_like f g zero h e = refl
+count_like f g (suc n) h e = let a = e (suc n) (omega arith) h in let b = count_like f g n (omega arith) e in rw (a, b)
+
+without_like : (f g : ℕ → List Job) (q : ℕ) → Like f g → Like (without q f) (without q g)
+without_like f g q e r h k = let a = e r h k in rw a
+
+pub walk_like : (before : Job → Job → Bool) (long n t : ℕ) (f g : ℕ → List Job) (ws : List Window) → Like f g → walked before long n t f ws ≡ walked before long n t g ws
+walk_like before long zero t f g ws e = refl
+walk_like before long (suc n) t f g ws e =
+    ap (λ (l : List Job). turn (next before t l) ws (on f)) (firsts_like f g 7 (omega arith) e)
+    ∙ ap (turn (next before t (firsts g 7)) ws) (λ i w. and_then (placed_next long ws w) (λ zs. walk_like before long n (end w) (without w.packet.queue f) (without w.packet.queue g) zs (without_like f g w.packet.queue e) i))
+  where
+    on : (ℕ → List Job) → Window → Result (List Window) SearchFault
+    on l w = and_then (placed_next long ws w) (walked before long n (end w) (without w.packet.queue l))
+
+pub walked_like : (before : Job → Job → Bool) (long t : ℕ) (f g : ℕ → List Job) (ws : List Window) → Like f g → walked_over before long t f ws ≡ walked_over before long t g ws
+walked_like before long t f g ws e = ap (λ (n : ℕ). walked before long n t f ws) (count_like f g 7 (omega arith) e) ∙ walk_like before long (count g 7) t f g ws e
 
 count_other : (f : ℕ → List Job) (q n : ℕ) → n < q → count (without q f) n ≡ count f n
 count_other f q zero h = refl
@@ -88,60 +90,6 @@ module _ (b : Job → Job → Bool) (long : ℕ) where
       walked b long (count f 7) t f ws ≡ Err x
   walked_err t f ws w x e some most has p =
       ap (λ (n : ℕ). walked b long n t f ws) (count-without f w.packet.queue 7 some most has) ∙ walked-turn (count (without w.packet.queue f) 7) t f ws w (Err x) e p
-
-module _ (s : Traffic) (long : ℕ) (kept : all_kept s.rate s.flows ≡ true) where
-  -- the queues hold the first of what is left
-  pub lefts-firsts : (qs : Queues) → AllCome s long qs → firsts (nexts qs) 7 ≡ firsts (lefts s long qs) 7
-  lefts-firsts qs come = firsts_like (nexts qs) (lefts s long qs) 7 (λ q h. sym (left-first s long q kept (held (queue_at qs q)) (come q (omega arith)).lined))
-
-  left_due : (q : ℕ) (ns : List Next) → AllByRecursion (Due s long q) (left s long q ns)
-  left_due q ns = all_kept_by (to_come ns) (Due s long q) (packets_before s q long) (packets_due s q long)
-
-  -- the packet of the next window is in a queue of which something is left
-  pub next-left : (b : Job → Job → Bool) (t : ℕ) (qs : Queues) (w : Window) → next b t (firsts (lefts s long qs) 7) ≡ Some w → 0 < length (lefts s long qs w.packet.queue)
-  next-left b t qs w e =
-      let f = lefts s long qs in
-      next_all (λ (p : Job). 0 < length (f p.queue)) b t (firsts f 7) w e
-      (firsts_all (λ (p : Job). 0 < length (f p.queue)) f 7 (λ q a c.
-      all_some (λ (p : Job). 0 < length (f p.queue)) (f q) (λ has.
-      All-weaker (Due s long q) (λ (p : Job). 0 < length (f p.queue)) (λ p d. subst (λ (k : ℕ). 0 < length (f k)) (sym d.waits) has) (f q) (left_due q (held (queue_at qs q))))))
-
-  -- one packet taken from a queue
-  pub lefts_step : (q : ℕ) (qs ps : Queues) (r : Option Job) → AllCome s long qs → q < 8 →
-      MatchOption r ((held (queue_at qs q) ≡ []) × (held (queue_at ps q) ≡ [])) (λ x. Stepped s long q x (held (queue_at qs q)) (held (queue_at ps q))) →
-      OthersStay q qs ps → lefts s long ps ≡ without q (lefts s long qs)
-  lefts_step q qs ps r come below took others = λ i k. at k i
-    where
-      here : (r : Option Job) → MatchOption r ((held (queue_at qs q) ≡ []) × (held (queue_at ps q) ≡ [])) (λ x. Stepped s long q x (held (queue_at qs q)) (held (queue_at ps q))) → left s long q (held (queue_at ps q)) ≡ drop 1 (left s long q (held (queue_at qs q)))
-      here None t = ap (left s long q) t.1 ∙ left_none s long q kept ∙ sym (ap (drop 1) (ap (left s long q) t.0 ∙ left_none s long q kept))
-      here (Some x) t = sym (ap (drop 1) (left_step s long q kept x (held (queue_at qs q)) (held (queue_at ps q)) (come q below).lined t))
-
-      at : (k : ℕ) → lefts s long ps k ≡ without q (lefts s long qs) k
-      at k =
-          ⊎_elim
-          (λ (e : k ≡ q).
-          subst (λ (j : ℕ). lefts s long ps j ≡ without q (lefts s long qs) j) (sym e)
-          (here r took ∙ sym (ap (λ (t : Bool). cond t (drop 1 (lefts s long qs q)) (lefts s long qs q)) (eq-eqb q q refl))))
-          (λ ne. ap (λ c. left s long k (held c)) (others k ne) ∙ sym (ap (λ (t : Bool). cond t (drop 1 (lefts s long qs k)) (lefts s long qs k)) (ne_eqb k q ne)))
-          (cases_eq k q)
-
-  no_such : (P : Job → Type 0) (xs : List Job) → AllByRecursion P xs → ((x : Job) → P x → ⊥) → xs ≡ []
-  no_such P [] ps never = refl
-  no_such P (x ∷ xs) ps never = absurd (never x ps.0)
-
-  -- at the beginning all packets of the cycle are left
-  pub lefts_all : (qs : Queues) → AllBuilt s long qs → length qs.queues ≡ 8 → lefts s long qs ≡ (λ q. packets_before s q long)
-  lefts_all qs built eight = λ i k. at k i
-    where
-      at : (k : ℕ) → lefts s long qs k ≡ packets_before s k long
-      at k =
-          ⊎_elim
-          (λ (h : k < 8). left_all s long k kept (held (queue_at qs k)) (built k h).0)
-          (λ (h : 8 ≤ k).
-          let none : packets_before s k long ≡ [] = no_such (Due s long k) (packets_before s k long) (packets_due s k long) (λ x d. let b = due_bounds s long k x kept d in let w = d.waits in let m = b.queue_most in omega arith) in
-          let past : queue_at qs k ≡ no_queue = get_or_past qs.queues k no_queue (omega arith) in
-          ap (λ c. left s long k (held c)) past ∙ left_none s long k kept ∙ sym none)
-          (cases_lt k 8)
 
 -- why a walk stops
 err_same : (e x : SearchFault) (r : Result (List Window) SearchFault) → r ≡ Err x → r ≡ Err e → x ≡ e

@@ -2,13 +2,10 @@
 pub mod Serving
 pub mod Windows
 pub mod Drawn
-pub mod Coming
 pub mod Faults
 pub mod Search
 pub mod Queues
-pub mod Tallies
+pub mod Schedules
 pub mod Trials
 pub mod Memory
 pub mod Packets
-pub mod Left
-pub mod Behind

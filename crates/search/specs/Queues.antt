@@ -1,48 +1,24 @@
--- The packets of all queues that are still to come. Assumes nothing.
-use Rattle.std.specs.Prelude.{◌≡◌, ℕ, ◌<◌, ◌≤◌, min, Bool, cond, List, [], ◌∷◌, map, length, Some, None, Option, ◌≢◌, nat_le, slice_index_or}
+-- The mandatory packets that are still to come. Assumes nothing.
+use Rattle.std.specs.Prelude.{◌≡◌, ℕ, zero, suc, ◌<◌, ◌≤◌, Bool, cond, List, [], length, slice_index_or}
+use Rattle.std.specs.List.{slice_get, filter_map}
 use Rattle.traffic.specs.declared.packet.Job.{Job}
 use Rattle.traffic.specs.Packets.{Traffic}
-use Rattle.search.specs.declared.coming.Queue.{Queue}
-use Rattle.search.specs.declared.queues.Queues.{Queues}
-use Rattle.search.specs.Coming.{Built, Comes, held, packet_of}
-use Rattle.search.specs.Search.{least_arrival, sooner}
+use Rattle.coming.specs.Packets.{packets_before}
 
--- stands where no queue is
-abbrev pub no_queue : Queue
-no_queue = record { next = []; len = 0 }
+-- the first packet of each of these queues that has one
+abbrev pub heads : List (List Job) → List Job
+heads qs = filter_map (λ q. slice_get q 0) qs
 
--- queue q
-abbrev pub queue_at : Queues → ℕ → Queue
-queue_at qs q = slice_index_or qs.queues q no_queue
+-- the best so far if that is before the other one in serving order, else the other one
+abbrev pub served_first : (Job → Job → Bool) → Job → Job → Job
+served_first before best p = cond (before best p) best p
 
--- the next packet of each flow in queue q, in queue order
-abbrev pub nexts : Queues → ℕ → List Job
-nexts qs q = map packet_of (held (queue_at qs q))
+-- what is left in queue q, of the queues from 1 on
+abbrev pub left_in : List (List Job) → ℕ → List Job
+left_in qs zero = []
+left_in qs (suc q) = slice_index_or qs q []
 
--- the least arrival of these, if there are any
-abbrev pub least : List Job → Option ℕ
-least [] = None
-least (x ∷ xs) = Some (least_arrival x xs)
-
--- the earlier of an instant and a packet's arrival, if there are any
-abbrev pub earliest : Option Job → Option ℕ → Option ℕ
-earliest None t = t
-earliest (Some x) None = Some x.arrival
-earliest (Some x) (Some t) = Some (min x.arrival t)
-
--- the best so far, or a packet that has arrived by t if that is not behind it
-abbrev pub served_with : (Job → Job → Bool) → ℕ → Option Job → Option Job → Option Job
-served_with before t None best = best
-served_with before t (Some x) best = cond (nat_le x.arrival t) (Some (sooner before x best)) best
-
--- all queues hold packets to come
-abbrev pub AllCome : Traffic → ℕ → Queues → Type 0
-AllCome s long qs = (q : ℕ) → q < 8 → Comes s long q (queue_at qs q)
-
--- all queues hold the first packets of the cycle
-abbrev pub AllBuilt : Traffic → ℕ → Queues → Type 0
-AllBuilt s long qs = (q : ℕ) → q < 8 → Built s long q (length s.flows) (held (queue_at qs q)) × ((queue_at qs q).len ≤ 64)
-
--- the queues other than q are as they were
-abbrev pub OthersStay : ℕ → Queues → Queues → Type 0
-OthersStay q before after = (r : ℕ) → (r ≢ q) → queue_at after r ≡ queue_at before r
+-- these are all packets of the cycle in the queues 1 to 7
+pub record AllLeft (s : Traffic) (long : ℕ) (qs : List (List Job)) : Type 0 where
+  pub seven : length qs ≡ 7
+  pub all : (q : ℕ) → 0 < q → q ≤ 7 → left_in qs q ≡ packets_before s q long

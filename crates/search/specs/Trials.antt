@@ -7,7 +7,6 @@ use Rattle.search.specs.declared.trials.Room.{Room}
 use Rattle.search.specs.declared.trials.Trials.{Trials}
 use Rattle.search.specs.Windows.{end, last_end, first_start, latest}
 use Rattle.search.specs.Search.{room, admitted_end}
-use Rattle.search.specs.Tallies.{Tallied, standing}
 
 -- the window ends by the instant t
 abbrev pub EndsBy : ℕ → Window → Type 0
@@ -32,7 +31,6 @@ abbrev pub NoRoom : ℕ → ℕ → Job → List Window → Type 0
 NoRoom low n x ws = x.deadline < room low x.wire (drop n ws) + x.wire
 
 -- the trials so far, of packets that arrived by a
-pub record Tried (long a : ℕ) (ms : List Window) (t : Trials) : Type 0 where
-  pub tally : Tallied long ms t.tally
-  pub last : t.last ≡ admitted_end (standing ms t.tally)
-  pub passed : Passed (max a t.last) t.passed (standing ms t.tally)
+pub record Tried (a : ℕ) (ws : List Window) (t : Trials) : Type 0 where
+  pub last : t.last ≡ admitted_end ws
+  pub passed : Passed (max a t.last) t.passed ws

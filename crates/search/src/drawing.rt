@@ -1,14 +1,14 @@
 // The list drawn from windows.
 ghost use Rattle.std.specs.Prelude.{◌≡◌, ℕ, ◌+◌, ◌^◌, ◌<◌, ◌≤◌, [], ◌∷◌, length, take, drop, if◌then◌else◌, nat_lt};
 ghost use Rattle.std.specs.List.{AllByRecursion};
-ghost use Rattle.search.specs.Windows.{Fits, end, last_end, first_start, latest};
-ghost use Rattle.search.specs.Drawn.{closed, entry, drawn, inserted_at, Wrote};
+ghost use Rattle.search.specs.Windows.{Fits, last_end, first_start, latest};
+ghost use Rattle.search.specs.Drawn.{closed, entry, drawn, Wrote};
 
 use crate::window::Window;
 use gates::entry::Entry;
 
 // The end of the window in front of a place, or 0.
-fn end_before(windows: &[Window], place: usize) -> u64
+pub(crate) fn end_before(windows: &[Window], place: usize) -> u64
     requires fit { AllByRecursion Fits windows.now }
     requires within { place ≤ length windows.now }
     ensures { result ≡ last_end 0 (take place windows.now) }
@@ -21,7 +21,7 @@ fn end_before(windows: &[Window], place: usize) -> u64
 }
 
 // The start of the window at a place, or the end of the cycle.
-fn start_at(windows: &[Window], place: usize, cycle: u64) -> u64
+pub(crate) fn start_at(windows: &[Window], place: usize, cycle: u64) -> u64
     ensures { result ≡ first_start (drop place windows.now) cycle }
 {
     if place < windows.len() {
@@ -32,28 +32,10 @@ fn start_at(windows: &[Window], place: usize, cycle: u64) -> u64
 }
 
 // One if the stretch from `a` to `b` is not empty.
-fn stretch(a: u64, b: u64) -> usize
+pub(crate) fn stretch(a: u64, b: u64) -> usize
     ensures { result ≡ (if nat_lt a b then 1 else 0) }
 {
     if a < b { 1 } else { 0 }
-}
-
-// How many entries the list has with one more window at a place, from those that it has without it.
-pub fn entries_with(
-    windows: &[Window],
-    place: usize,
-    w: &Window,
-    cycle: u64,
-    entries: usize,
-) -> usize
-    requires fit { AllByRecursion Fits windows.now × Fits w.now }
-    requires within { place ≤ length windows.now }
-    requires count { (entries ≡ length (drawn 0 windows.now cycle)) × (entries ≤ 1024) }
-    ensures { result ≡ length (drawn 0 (inserted_at place w.now windows.now) cycle) }
-{
-    let before = end_before(windows, place);
-    let after = start_at(windows, place, cycle);
-    entries - stretch(before, after) + stretch(before, w.start) + 1 + stretch(w.end(), after)
 }
 
 // The entry of a window: an optional packet is named.
@@ -112,7 +94,7 @@ fn close(list: &mut [Entry], n: usize, a: u64, b: u64) -> usize
 }
 
 // Draws the list: one entry a window, one closed entry for each non-empty stretch before, between and after. Answers its length.
-pub fn draw(windows: &[Window], cycle: u64, list: &mut [Entry]) -> usize
+pub(crate) fn draw(windows: &[Window], cycle: u64, list: &mut [Entry]) -> usize
     requires fit { AllByRecursion Fits windows.now × (cycle ≤ latest) }
     requires room { length (drawn 0 windows.now cycle) ≤ length list.old }
     ensures { Wrote (drawn 0 windows.now cycle) 0 result list.old list.new }

@@ -2,7 +2,7 @@
 ghost use Rattle.std.specs.Prelude.{◌≡◌};
 ghost use Rattle.search.specs.Faults.{search_refusal};
 
-use refusal::Refusal;
+use refusal::{Reason, Refusal};
 
 // Why a search draws no list. A late packet, and one whose window makes the list too long,
 // are named by their flow and their number in the cycle.
@@ -14,21 +14,16 @@ pub enum SearchFault {
     TooLong(u8, u64),
 }
 
-impl SearchFault {
-    // The refusal that a fault stands for.
-    pub fn refusal(self) -> Refusal
-        ensures { result ≡ search_refusal self }
-    {
-        let (code, place, number) = match self {
-            SearchFault::EmptySheet => (7, 0, 0),
-            SearchFault::LittleMemory => (8, 0, 0),
-            SearchFault::Late(flow, number) => (9, flow as u32, number),
-            SearchFault::TooLong(flow, number) => (10, flow as u32, number),
-        };
-        Refusal {
-            code,
-            place,
-            number,
+// The refusal that a fault stands for.
+impl From<SearchFault> for Refusal {
+    ghost from_gives = { λ fault r. r ≡ search_refusal fault };
+
+    fn from(fault: SearchFault) -> Refusal {
+        match fault {
+            SearchFault::EmptySheet => Refusal::from(Reason::EmptySheet),
+            SearchFault::LittleMemory => Refusal::from(Reason::LittleMemory),
+            SearchFault::Late(flow, number) => Reason::LatePacket.of_packet(flow, number),
+            SearchFault::TooLong(flow, number) => Reason::LongList.of_packet(flow, number),
         }
     }
 }

@@ -2,61 +2,16 @@
 ghost use Rattle.std.specs.Prelude.{◌≡◌, ℕ, ◌<◌, ◌≤◌, length, replicate, Err, MatchResult};
 ghost use Rattle.search.specs.Search.{planned_list};
 ghost use Rattle.search.specs.Packets.{cycle_packets};
-ghost use Rattle.search.specs.Memory.{zero_from, zero_windows, Planned, Searched};
+ghost use Rattle.search.specs.Memory.{Planned, Searched};
 
-use crate::drawing::draw;
 use crate::fault::SearchFault;
-use crate::queues::Queues;
+use crate::schedule::{MOST_ENTRIES, Schedule};
 use crate::serving::ServingOrder;
 use crate::trials::admit;
-use crate::walk::{MOST_ENTRIES, walk};
+use crate::walk::walk;
 use crate::window::Window;
 use gates::entry::Entry;
 use sheet::sheet::Sheet;
-use traffic::packet::Job;
-
-// An entry of zeros.
-const NO_ENTRY: Entry = Entry {
-    gates: 0,
-    interval: 0,
-    flow: 0,
-    number: 0,
-};
-
-// A window of zeros.
-const NO_WINDOW: Window = Window {
-    start: 0,
-    packet: Job {
-        flow: 0,
-        number: 0,
-        queue: 0,
-        arrival: 0,
-        deadline: 0,
-        wire: 0,
-        weight: 0,
-    },
-};
-
-// Zero from a place on.
-fn clear_entries(list: &mut [Entry], from: usize)
-    requires { from ≤ length list.old }
-    ensures { list.new ≡ zero_from from list.old }
-{
-    let mut i = from;
-    while i < list.len() {
-        list[i] = NO_ENTRY;
-        i += 1;
-    }
-}
-
-// All windows zero.
-fn clear_windows(windows: &mut [Window])
-    ensures { windows.new ≡ zero_windows windows.old }
-{
-    for w in windows.iter_mut() {
-        *w = NO_WINDOW;
-    }
-}
 
 // Walk, trials and drawing.
 fn planned<O: ServingOrder>(
@@ -70,11 +25,10 @@ fn planned<O: ServingOrder>(
         (λ n. Planned (planned_list (O.before order.now) (cycle_packets sheet.now)) n list.old list.new)
         (λ e. planned_list (O.before order.now) (cycle_packets sheet.now) ≡ Err e) }
 {
-    let mut queues = Queues::of(sheet);
-    let placed = walk(sheet, order, &mut queues, windows)?;
-    let tally = admit(sheet, &mut queues, windows, placed);
-    let n = tally.windows;
-    Ok(draw(&windows[0..n], sheet.cycle(), list))
+    let mut schedule = Schedule::new(windows, sheet.cycle());
+    walk(sheet, order, &mut schedule)?;
+    admit(sheet, &mut schedule);
+    Ok(schedule.draw(list))
 }
 
 // Searches a gate list for the sheet under a serving order, and answers its length. The list is then at the start of the
@@ -94,10 +48,8 @@ pub fn search<O: ServingOrder>(
         return Err(SearchFault::LittleMemory);
     }
     let found = planned(sheet, order, list, windows);
-    clear_windows(windows);
-    match found {
-        Ok(n) => clear_entries(list, n),
-        Err(_) => clear_entries(list, 0),
-    }
+    let drawn = found.unwrap_or(0);
+    list[drawn..].fill(Entry::ZERO);
+    windows.fill(Window::default());
     found
 }

@@ -1,20 +1,16 @@
 // The optional packets: each is tried at its one start.
-ghost use Rattle.std.specs.Prelude.{◌≡◌, ℕ, ◌+◌, ◌<◌, ◌≤◌, max, length, MatchOption};
-ghost use Rattle.std.specs.List.{AllByRecursion};
-ghost use Rattle.sheet.specs.Contents.{traffic_of};
-ghost use Rattle.search.specs.Windows.{Fits, latest};
-ghost use Rattle.search.specs.Queues.{AllCome};
-ghost use Rattle.search.specs.Left.{trials_of};
-ghost use Rattle.search.specs.Tallies.{FitsJob, Tallied, standing};
-ghost use Rattle.search.specs.Search.{admitted_end, tried};
+ghost use Rattle.std.specs.Prelude.{◌≡◌, ℕ, ◌+◌, ◌<◌, ◌≤◌, max, length, MatchOption, nat_le};
+ghost use Rattle.std.specs.List.{All, AllByRecursion, prefix_len};
+ghost use Rattle.search.specs.Windows.{Fits, end, latest};
+ghost use Rattle.search.specs.Search.{admitted, admitted_end, tried};
+ghost use Rattle.search.specs.Packets.{cycle_packets};
+ghost use Rattle.search.specs.Schedules.{FitsJob};
 ghost use Rattle.search.specs.Trials.{Passed, HasRoom, NoRoom, Tried};
 
-use crate::drawing::entries_with;
-use crate::queues::Queues;
-use crate::walk::{MOST_ENTRIES, Tally};
+use crate::schedule::Schedule;
 use crate::window::Window;
+use coming::coming::Queue;
 use sheet::sheet::Sheet;
-use table::table::put;
 use traffic::packet::Job;
 
 // Where a packet may be sent: from an instant on, in front of the window at a place.
@@ -24,12 +20,19 @@ struct Room {
     place: usize,
 }
 
-// How far the trials have come: the windows so far, the end of the last admitted one, and how many end by the least start of a trial.
+// How far the trials have come: the end of the last admitted window, and how many windows end by the least start of a trial.
 #[derive(Clone, Copy)]
 struct Trials {
-    tally: Tally,
     last: u64,
     passed: usize,
+}
+
+// How many windows in a row end by the instant `low`.
+fn ended(windows: &[Window], low: u64) -> usize
+    requires { All (λ w. end w ≤ latest) windows.now }
+    ensures { result ≡ prefix_len (λ w. nat_le (end w) low) windows.now }
+{
+    windows.iter().take_while(|w| w.end() <= low).count()
 }
 
 // How many windows end by the instant `low`, where so many are known to.
@@ -38,11 +41,7 @@ fn windows_passed(windows: &[Window], from: usize, low: u64) -> usize
     requires passed { Passed low from windows.now }
     ensures { Passed low result windows.now }
 {
-    let mut at = from;
-    while at < windows.len() && windows[at].end() <= low {
-        at += 1;
-    }
-    at
+    from + ended(&windows[from..], low)
 }
 
 // The least start from `low` on at which the packet overlaps no window, unless it would be late.
@@ -51,84 +50,62 @@ fn room_for(windows: &[Window], from: usize, low: u64, job: &Job) -> Option<Room
     requires passed { Passed low from windows.now }
     ensures { MatchOption result (NoRoom low from job.now windows.now) (HasRoom low from job.now windows.now) }
 {
+    let wire = job.wire as u64;
     let mut start = low;
     let mut place = from;
-    while start + job.wire as u64 <= job.deadline {
-        if place >= windows.len() || start + job.wire as u64 <= windows[place].start {
-            return Some(Room { start, place });
+    for w in &windows[from..] {
+        if start + wire <= w.start || start + wire > job.deadline {
+            break;
         }
-        start = start.max(windows[place].end());
+        start = start.max(w.end());
         place += 1;
     }
-    None
+    if start + wire > job.deadline {
+        return None;
+    }
+    Some(Room { start, place })
 }
 
-// Tries one packet: it is admitted if it ends by its deadline and the list stays within its limit.
-fn try_packet(windows: &mut [Window], so_far: Trials, job: Job, cycle: u64) -> Trials
-    requires tried { Tried cycle job.arrival windows.old so_far }
-    requires memory { 1024 ≤ length windows.old }
-    requires fits { FitsJob job × (job.queue ≡ 0) × (job.arrival ≤ latest) }
-    ensures tried { Tried cycle job.arrival windows.new result }
-    ensures result { standing windows.new result.tally ≡ tried cycle job (standing windows.old so_far.tally) }
+// Gives a packet the window with the least start from `low` on, and answers its end. None, with nothing changed,
+// where the packet would be late or the list gets too long.
+fn admit_packet(schedule: &mut Schedule, passed: usize, low: u64, job: Job) -> Option<u64>
+    requires low { low ≡ max job.arrival (admitted_end schedule.old.windows) }
+    requires passed { Passed low passed schedule.old.windows }
+    requires fits { FitsJob job × (job.queue ≡ 0) × (low ≤ latest) }
+    ensures result { MatchOption result (schedule.new ≡ schedule.old) (λ last. Tried job.arrival schedule.new.windows (record { last = last; passed = passed })) }
+    ensures tried { (schedule.new.windows ≡ tried schedule.old.long job schedule.old.windows) × (schedule.new.long ≡ schedule.old.long) }
 {
-    let tally = so_far.tally;
-    let last = so_far.last;
-    let n = tally.windows;
-    let low = job.arrival.max(last);
-    let passed = windows_passed(&windows[0..n], so_far.passed, low);
-    let Some(room) = room_for(&windows[0..n], passed, low, &job) else {
-        return Trials {
-            tally,
-            last,
-            passed,
-        };
-    };
+    let room = room_for(schedule.windows(), passed, low, &job)?;
     let w = Window {
         start: room.start,
         packet: job,
     };
-    let entries = entries_with(&windows[0..n], room.place, &w, cycle, tally.entries);
-    if entries > MOST_ENTRIES {
-        return Trials {
-            tally,
-            last,
-            passed,
-        };
-    }
-    match put(windows, n, w) {
-        Ok(more) => Trials {
-            tally: Tally {
-                windows: more,
-                entries,
-            },
-            last: w.end(),
-            passed,
-        },
-        Err(_) => Trials {
-            tally,
-            last,
-            passed,
-        },
+    match schedule.insert(room.place, w) {
+        Ok(()) => Some(w.end()),
+        Err(_) => None,
     }
 }
 
-// Tries the optional packets in the order of their queue.
-pub fn admit(sheet: &Sheet, queues: &mut Queues, windows: &mut [Window], tally: Tally) -> Tally
-    requires come { AllCome (traffic_of sheet.now) sheet.now.cycle queues.old }
-    requires memory { 1024 ≤ length windows.old }
-    requires tally { Tallied sheet.now.cycle windows.old tally }
-    requires none { admitted_end (standing windows.old tally) ≡ 0 }
-    ensures tallied { Tallied sheet.now.cycle windows.new result }
-    ensures value { standing windows.new result ≡ trials_of sheet.now queues.old (standing windows.old tally) }
+// Tries one packet: it is admitted if it ends by its deadline and the list stays within its limit.
+fn try_packet(schedule: &mut Schedule, so_far: Trials, job: Job) -> Trials
+    requires tried { Tried job.arrival schedule.old.windows so_far }
+    requires fits { FitsJob job × (job.queue ≡ 0) × (job.arrival ≤ latest) }
+    ensures so_far { Tried job.arrival schedule.new.windows result }
+    ensures tried { (schedule.new.windows ≡ tried schedule.old.long job schedule.old.windows) × (schedule.new.long ≡ schedule.old.long) }
 {
-    let cycle = sheet.cycle();
-    let mut trials = Trials {
-        tally,
-        last: 0,
-        passed: 0,
-    };
-    while let Some(job) = queues.take(sheet, 0) {
-        trials = try_packet(windows, trials, job, cycle);
+    let low = job.arrival.max(so_far.last);
+    let passed = windows_passed(schedule.windows(), so_far.passed, low);
+    let last = admit_packet(schedule, passed, low, job).unwrap_or(so_far.last);
+    Trials { last, passed }
+}
+
+// Tries the optional packets in the order of their queue.
+pub(crate) fn admit(sheet: &Sheet, schedule: &mut Schedule)
+    requires { (schedule.old.long ≡ sheet.now.cycle) × (admitted_end schedule.old.windows ≡ 0) }
+    ensures { (schedule.new.windows ≡ admitted sheet.now.cycle (cycle_packets sheet.now).optional schedule.old.windows) × (schedule.new.long ≡ sheet.now.cycle) }
+{
+    let mut trials = Trials { last: 0, passed: 0 };
+    for job in Queue::of(sheet, 0) {
+        trials = try_packet(schedule, trials, job);
     }
-    trials.tally
 }

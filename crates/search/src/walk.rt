@@ -1,99 +1,55 @@
 // The walk: each mandatory packet gets its window.
-ghost use Rattle.std.specs.Prelude.{◌≡◌, ℕ, ◌+◌, ◌<◌, ◌≤◌, length, if◌then◌else◌, Ok, Err, MatchResult, nat_lt};
-ghost use Rattle.sheet.specs.Contents.{traffic_of};
+ghost use Rattle.std.specs.Prelude.{◌≡◌, ℕ, ◌≤◌, [], Ok, Err, MatchResult};
 ghost use Rattle.search.specs.Windows.{last_end, latest};
-ghost use Rattle.search.specs.Search.{placed_next, admitted_end};
-ghost use Rattle.search.specs.Queues.{AllCome, queue_at};
-ghost use Rattle.search.specs.Left.{walk_of};
-ghost use Rattle.search.specs.Tallies.{FitsJob, Tallied, standing};
+ghost use Rattle.search.specs.Search.{placed_next, admitted_end, walked_over};
+ghost use Rattle.search.specs.Packets.{cycle_packets};
+ghost use Rattle.search.specs.Schedules.{FitsJob};
 
-use crate::drawing::entries_with;
 use crate::fault::SearchFault;
-use crate::queues::Queues;
+use crate::queues::{mandatory_queues, next_window, take};
+use crate::schedule::Schedule;
 use crate::serving::ServingOrder;
 use crate::window::Window;
 use sheet::sheet::Sheet;
-use table::table::put;
 
-// The most entries that a list may have.
-pub const MOST_ENTRIES: usize = 1024;
-
-// The windows so far: how many they are, and how many entries the list drawn from them has.
-#[derive(Clone, Copy)]
-pub struct Tally {
-    pub windows: usize,
-    pub entries: usize,
-}
-
-// One more window behind the others, unless it is late or makes the list too long.
-fn place(windows: &mut [Window], tally: Tally, w: Window, cycle: u64) -> Result<Tally, SearchFault>
-    requires tally { Tallied cycle windows.old tally }
-    requires memory { 1024 ≤ length windows.old }
+// One window more behind the others, unless it is late or makes the list too long.
+fn place(schedule: &mut Schedule, w: Window) -> Result<(), SearchFault>
     requires fits { FitsJob w.packet × (w.start ≤ latest) }
-    requires behind { last_end 0 (standing windows.old tally) ≤ w.start }
+    requires behind { last_end 0 schedule.old.windows ≤ w.start }
     ensures { MatchResult result
-        (λ t. (placed_next cycle (standing windows.old tally) w ≡ Ok (standing windows.new t)) × Tallied cycle windows.new t × (t.windows ≡ tally.windows + 1))
-        (λ e. placed_next cycle (standing windows.old tally) w ≡ Err e) }
+        (λ _. (placed_next schedule.old.long schedule.old.windows w ≡ Ok schedule.new.windows) × (schedule.new.long ≡ schedule.old.long))
+        (λ e. placed_next schedule.old.long schedule.old.windows w ≡ Err e) }
 {
     let p = w.packet;
     if w.end() > p.deadline {
         return Err(SearchFault::Late(p.flow, p.number));
     }
-    let n = tally.windows;
-    let entries = entries_with(&windows[0..n], n, &w, cycle, tally.entries);
-    if entries > MOST_ENTRIES {
-        return Err(SearchFault::TooLong(p.flow, p.number));
-    }
-    match put(windows, n, w) {
-        Ok(more) => Ok(Tally {
-            windows: more,
-            entries,
-        }),
+    let behind = schedule.windows().len();
+    match schedule.insert(behind, w) {
+        Ok(()) => Ok(()),
         Err(_) => Err(SearchFault::TooLong(p.flow, p.number)),
     }
 }
 
-// No windows: the list is one closed stretch.
-fn empty_tally(cycle: u64) -> Tally
-    ensures { (result.windows ≡ 0) × (result.entries ≡ (if nat_lt 0 cycle then 1 else 0)) }
-{
-    if cycle > 0 {
-        Tally {
-            windows: 0,
-            entries: 1,
-        }
-    } else {
-        Tally {
-            windows: 0,
-            entries: 0,
-        }
-    }
-}
-
 // Gives each mandatory packet its window.
-pub fn walk<O: ServingOrder>(
+pub(crate) fn walk<O: ServingOrder>(
     sheet: &Sheet,
     order: &O,
-    queues: &mut Queues,
-    windows: &mut [Window],
-) -> Result<Tally, SearchFault>
-    requires come { AllCome (traffic_of sheet.now) sheet.now.cycle queues.old }
-    requires memory { 1024 ≤ length windows.old }
-    ensures value { MatchResult result
-        (λ t. Tallied sheet.now.cycle windows.new t
-        × (admitted_end (standing windows.new t) ≡ 0)
-        × (walk_of (O.before order.now) sheet.now queues.old ≡ Ok (standing windows.new t)))
-        (λ e. walk_of (O.before order.now) sheet.now queues.old ≡ Err e) }
-    ensures come { AllCome (traffic_of sheet.now) sheet.now.cycle queues.new }
-    ensures optional { queue_at queues.new 0 ≡ queue_at queues.old 0 }
+    schedule: &mut Schedule,
+) -> Result<(), SearchFault>
+    requires { schedule.old ≡ record { windows = []; long = sheet.now.cycle } }
+    ensures { MatchResult result
+        (λ _. (walked_over (O.before order.now) sheet.now.cycle 0 (cycle_packets sheet.now).mandatory [] ≡ Ok schedule.new.windows)
+        × (schedule.new.long ≡ sheet.now.cycle) × (admitted_end schedule.new.windows ≡ 0))
+        (λ e. walked_over (O.before order.now) sheet.now.cycle 0 (cycle_packets sheet.now).mandatory [] ≡ Err e) }
 {
-    let cycle = sheet.cycle();
-    let mut tally = empty_tally(cycle);
+    let mut mandatory = mandatory_queues(sheet);
+    let queues = &mut mandatory[..];
     let mut t = 0;
-    while let Some(w) = queues.next_window(order, t) {
-        tally = place(windows, tally, w, cycle)?;
-        queues.take(sheet, w.packet.queue);
+    while let Some(w) = next_window(queues, order, t) {
+        place(schedule, w)?;
+        take(queues, w.packet.queue);
         t = w.end();
     }
-    Ok(tally)
+    Ok(())
 }

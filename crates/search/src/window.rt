@@ -7,7 +7,7 @@ use table::order::Ordered;
 use traffic::packet::Job;
 
 // A packet on the wire from an instant on.
-#[derive(Clone, Copy, PartialEq, Eq, Debug)]
+#[derive(Clone, Copy, PartialEq, Eq, Debug, Default)]
 pub struct Window {
     pub start: u64,
     pub packet: Job,

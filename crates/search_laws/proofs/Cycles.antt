@@ -4,26 +4,27 @@ use Prim.Native.Nat.{◌∣◌}
 use native.Mathlib.Nat.{dvd_trans, dvd-mul_left, mod-eq-zero_of_dvd}
 use Rattle.std.specs.List.{AllByRecursion}
 use Rattle.std.proofs.ByRecursion.{All-weaker, All-get_or}
-use Rattle.std.proofs.lemmas.Bool.{cases_lt, both_ways, and_parts, or_cases, ltb-true, eqb-true}
+use Rattle.std.proofs.lemmas.Bool.{cases_lt, both_ways, and_parts}
 use Rattle.traffic.specs.declared.rate.Rate.{Rate}
 use Rattle.traffic.specs.declared.flow.Flow.{Flow}
 use Rattle.traffic.specs.declared.packet.Job.{Job}
 use Rattle.traffic.specs.Pattern.{turn, mandatory_at}
-use Rattle.traffic.specs.Packets.{no_flow, flow_at}
+use Rattle.traffic.specs.Packets.{Traffic, no_flow, flow_at, job}
 use Rattle.traffic.specs.Orders.{queue_before}
+use Rattle.traffic.specs.Behind.{queue_asym}
 use Rattle.traffic.proofs.Total.{queue_order}
 use Rattle.cycle.specs.Cycle.{pattern_time, cycle_of}
 use Rattle.cycle.proofs.Repeats.{cycle-whole, cycle_some}
 use Rattle.sheet.specs.declared.sheet.Sheet.{Sheet}
 use Rattle.sheet.specs.Ranges.{all_kept}
 use Rattle.sheet.specs.Contents.{traffic_of}
-use Rattle.search.specs.Coming.{Due}
-use Rattle.search.specs.Packets.{packets_before}
-use Rattle.search.proofs.Kept.{Ranged, ranged, ranged_at}
-use Rattle.search.proofs.Dues.{flow_at_getD, due_bounds}
-use Rattle.search.proofs.Rising.{Rises}
-use Rattle.search.proofs.Arrivals.{packets_due, packets_rise}
-use Rattle.search.proofs.Lefts.{due_same}
+use Rattle.coming.specs.Coming.{Due}
+use Rattle.coming.specs.Packets.{packets_before}
+use Rattle.coming.proofs.Kept.{Ranged, ranged, ranged_at}
+use Rattle.coming.proofs.Dues.{flow_at_getD, due_bounds}
+use Rattle.coming.specs.Rising.{Rises}
+use Rattle.coming.proofs.Arrivals.{packets_due, packets_rise}
+use Rattle.coming.proofs.Steps.{not_sooner}
 use Rattle.search_laws.specs.Laws.{Rising, WaitsIn, Unlike, Distinct, Given}
 use Rattle.search_laws.specs.Sheets.{mandatory_packets, served_cycle}
 use Rattle.search_laws.proofs.Lists.{all_both}
@@ -78,27 +79,24 @@ waits s q =
     (λ x d. (d.waits, (due_bounds (traffic_of s) s.cycle q x s.kept d).wire_some, d.named, due_within s q x d))
     (packets_before (traffic_of s) q s.cycle) (packets_due (traffic_of s) q s.cycle)
 
--- a packet before another arrives no later
-before_arrives : (x y : Job) → queue_before x y ≡ true → x.arrival ≤ y.arrival
-before_arrives x y h =
-    ⊎_elim
-    (λ less. let l = ltb-true x.arrival y.arrival less in omega arith)
-    (λ same. let e = eqb-true x.arrival y.arrival (and_parts _ _ same).0 in omega arith)
-    (or_cases _ _ h)
-
 rising : (a : ℕ) (xs : List Job) → Rises queue_before xs → AllByRecursion (λ x. a ≤ x.arrival) xs → Rising a xs
 rising a [] r low = tt
-rising a (x ∷ xs) r low = (low.0, rising x.arrival xs r.1 (All-weaker (λ (y : Job). queue_before x y ≡ true) (λ (y : Job). x.arrival ≤ y.arrival) (λ y h. before_arrives x y h) xs r.0))
+rising a (x ∷ xs) r low = (low.0, rising x.arrival xs r.1 (All-weaker (λ (y : Job). queue_before x y ≡ true) (λ (y : Job). x.arrival ≤ y.arrival) (λ y h. not_sooner x y (queue_asym x y h)) xs r.0))
 
 late : (xs : List Job) → AllByRecursion (λ x. 0 ≤ x.arrival) xs
 late [] = tt
 late (x ∷ xs) = (omega arith, late xs)
 
+-- a packet is what its flow and number say
+due_same : (t : Traffic) (long q : ℕ) (x z : Job) → Due t long q x → Due t long q z → z.flow ≡ x.flow → z.number ≡ x.number → z ≡ x
+due_same t long q x z d e f n =
+    e.is ∙ ap (λ (i : ℕ). job t.rate i (flow_at t.flows i) z.number) f ∙ ap (job t.rate x.flow (flow_at t.flows x.flow)) n ∙ sym d.is
+
 distinct : (s : Sheet) (q : ℕ) (xs : List Job) → AllByRecursion (Due (traffic_of s) s.cycle q) xs → Rises queue_before xs → Distinct xs
 distinct s q [] d r = tt
 distinct s q (x ∷ xs) d r = (
   all_both (Due (traffic_of s) s.cycle q) (λ (y : Job). queue_before x y ≡ true) (Unlike x)
-      (λ y e before flow number. both_ways (queue_before x x) (queue_order.never x) (subst (λ (z : Job). queue_before x z ≡ true) (due_same (traffic_of s) s.cycle q s.kept x y d.0 e (sym flow) (sym number)) before))
+      (λ y e before flow number. both_ways (queue_before x x) (queue_order.never x) (subst (λ (z : Job). queue_before x z ≡ true) (due_same (traffic_of s) s.cycle q x y d.0 e (sym flow) (sym number)) before))
       xs d.1 r.0,
   distinct s q xs d.1 r.1,
 )

@@ -11,12 +11,13 @@ use Rattle.search.specs.declared.fault.SearchFault.{SearchFault}
 use Rattle.search.specs.declared.fault.SearchFault.TheVariants.{EmptySheet, LittleMemory, Late, TooLong}
 use Rattle.search.specs.Drawn.{drawn}
 use Rattle.search.specs.Memory.{no_entry, found, answer_of, list_after}
-use Rattle.search.specs.Search.{most_entries, and_then, count, admitted, planned_windows, planned_list}
-use Rattle.search.specs.Packets.{packets_before, cycle_packets}
+use Rattle.search.specs.Search.{most_entries, and_then, admitted, planned_windows, planned_list}
+use Rattle.coming.specs.Packets.{packets_before}
+use Rattle.search.specs.Packets.{cycle_packets}
 use Rattle.search_laws.specs.Words.{Serving}
 use Rattle.search_laws.specs.Sheets.{mandatory_packets, served_cycle, Lawful, Rightly}
 use Rattle.search_laws.proofs.Steps.{went_on}
-use Rattle.search_laws.proofs.Walk.{walk_like}
+use Rattle.search.proofs.Walking.{walked_like}
 use Rattle.search_laws.proofs.Admit.{windows_fit, rules_hold}
 use Rattle.search_laws.proofs.Once.{plan_lawful}
 use Rattle.search_laws.proofs.Refusals.{late_rightly, too_long_rightly}
@@ -29,7 +30,7 @@ planned_same b s =
     let all : ℕ → List Job = λ q. packets_before t q s.cycle in
     let like : (q : ℕ) → 0 < q → q ≤ 7 → all q ≡ mandatory_packets t s.cycle q = same t s in
     ap (λ (r : Result (List Window) SearchFault). and_then r (λ ws. Ok (admitted s.cycle (packets_before t 0 s.cycle) ws)))
-    (walk_like b s.cycle (count all 7) 0 all (mandatory_packets t s.cycle) [] like)
+    (walked_like b s.cycle 0 all (mandatory_packets t s.cycle) [] like)
   where
     same : (t : _) (s : Sheet) (q : ℕ) → 0 < q → q ≤ 7 → packets_before t q s.cycle ≡ mandatory_packets t s.cycle q
     same t s zero h k = absurd (omega arith)

@@ -1,5 +1,5 @@
 -- The walk. Assumes nothing.
-use Rattle.std.proofs.Common.{◌≡◌, ℕ, zero, suc, ◌+◌, ◌<◌, ◌≤◌, Bool, true, false, cond, eqb, ltb, ◌⊎◌, List, [], ◌∷◌, ◌++◌, length, take, Some, None, Ok, Option, Result, sym, refl, ap, ◌∙◌, subst, inl, inr, ⊎_elim, append_assoc, append-nil, arith}
+use Rattle.std.proofs.Common.{◌≡◌, ℕ, zero, suc, ◌+◌, ◌<◌, ◌≤◌, Bool, true, false, cond, eqb, ltb, ◌⊎◌, List, [], ◌∷◌, ◌++◌, length, take, Some, None, Ok, Option, sym, refl, ap, ◌∙◌, subst, inl, inr, ⊎_elim, append_assoc, append-nil, arith}
 use Rattle.std.proofs.lemmas.Bool.{cases_Bool, cases_lt, cond_both, eqb-true, eqb-false, eq-eqb, ne_eqb}
 use Rattle.std.proofs.ByRecursion.{All-push}
 use Rattle.std.specs.List.{AllByRecursion}
@@ -9,10 +9,9 @@ use Rattle.search.specs.Windows.{end, Apart}
 use Rattle.search_laws.specs.Words.{packets, windows_of, OnTime}
 use Rattle.search.specs.Drawn.{drawn}
 use Rattle.search.specs.Search.{Cycle, most_entries, firsts, next, without, placed_next, and_then, turn, walked, count}
-use Rattle.search.specs.declared.fault.SearchFault.{SearchFault}
 use Rattle.search_laws.specs.Laws.{In, WaitsIn, Given}
 use Rattle.search_laws.proofs.Lists.{all_right, kept_append, packets-append, apart_append, apart_to}
-use Rattle.search_laws.proofs.Steps.{went_on, on_alike, placed_ok}
+use Rattle.search_laws.proofs.Steps.{went_on, placed_ok}
 use Rattle.search_laws.proofs.Next.{next_none, next_some}
 
 -- a window that a search may set
@@ -180,27 +179,3 @@ module _ (before : Job → Job → Bool) (c : Cycle) (given : Given c) where
         short = cond_both (ltb 0 c.long) _ [] (λ l. length l ≤ most_entries) (λ _. omega arith) (λ _. omega arith);
         number = refl;
       }) e
-
--- the walk hangs on the queues 1 to 7 alone: for a loop that keeps cursors in place of lists
-abbrev pub Like : (ℕ → List Job) → (ℕ → List Job) → Type 0
-Like left right = (q : ℕ) → 0 < q → q ≤ 7 → left q ≡ right q
-
-firsts_like : (left right : ℕ → List Job) (n : ℕ) → n ≤ 7 → Like left right → firsts left n ≡ firsts right n
-firsts_like left right zero h e = refl
-firsts_like left right (suc n) h e = let a = e (suc n) (omega arith) h in let b = firsts_like left right n (omega arith) e in rw (a, b)
-
-without_like : (left right : ℕ → List Job) (q : ℕ) → Like left right → Like (without q left) (without q right)
-without_like left right q e r h k = let a = e r h k in rw a
-
-pub walk_like : (before : Job → Job → Bool) (long n t : ℕ) (left right : ℕ → List Job) (ws : List Window) → Like left right → walked before long n t left ws ≡ walked before long n t right ws
-walk_like before long zero t left right ws e = refl
-walk_like before long (suc n) t left right ws e =
-    ap (λ (l : List Job). turn (next before t l) ws (on left)) (firsts_like left right 7 (omega arith) e) ∙ go (next before t (firsts right 7)) (walk_like before long n)
-  where
-    on : (ℕ → List Job) → Window → Result (List Window) SearchFault
-    on l w = and_then (placed_next long ws w) (walked before long n (end w) (without w.packet.queue l))
-
-    go : (o : Option Window) → ((t : ℕ) (left right : ℕ → List Job) (ws : List Window) → Like left right → walked before long n t left ws ≡ walked before long n t right ws) → turn o ws (on left) ≡ turn o ws (on right)
-    go None ih = refl
-    go (Some w) ih = on_alike (placed_next long ws w) (walked before long n (end w) (without w.packet.queue left)) (walked before long n (end w) (without w.packet.queue right))
-        (λ vs. ih (end w) (without w.packet.queue left) (without w.packet.queue right) vs (without_like left right w.packet.queue e))

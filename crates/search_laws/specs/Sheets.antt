@@ -10,7 +10,7 @@ use Rattle.search.specs.declared.fault.SearchFault.{SearchFault}
 use Rattle.search.specs.declared.fault.SearchFault.TheVariants.{EmptySheet, LittleMemory, Late, TooLong}
 use Rattle.search.specs.Drawn.{drawn}
 use Rattle.search.specs.Search.{Cycle, most_entries}
-use Rattle.search.specs.Packets.{packets_before}
+use Rattle.coming.specs.Packets.{packets_before}
 use Rattle.search_laws.specs.Laws.{WalkLaw, Windows, Rules, PlanLaw}
 
 -- the mandatory packets of queue q in the cycle: none wait in queue 0

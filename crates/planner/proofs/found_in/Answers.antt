@@ -27,4 +27,4 @@ returns-in-Err c =
     let r = found deadline_monotonic s (length c.args.list.now) (length c.args.windows.now) in
     let fault = found_fault r c.in-Err.fault c.in-Err.ensures.searched.value in
     let same = found-is deadline_monotonic s (length c.args.list.now) (length c.args.windows.now) c.requires.some c.requires.memory.0 c.requires.memory.1 in
-    made-same c.refused.result _ _ (ap refusal_text c.refusal.ensures ∙ sym fault ∙ ap search_answer same) c.refused.ensures
+    made-same c.refused.result _ _ (ap refusal_text c.from.ensures ∙ sym fault ∙ ap search_answer same) c.refused.ensures

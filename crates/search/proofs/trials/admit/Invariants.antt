@@ -1,23 +1,23 @@
--- The trials so far, of packets that arrived before those to come: what is left gives the whole.
+-- The trials so far, and those of the packets that are left give them all; packets that are left arrive no earlier.
 use Rattle.std.proofs.Common.{◌≡◌, ℕ, ◌≤◌}
 use Rattle.std.specs.List.{AllByRecursion}
+use Rattle.traffic.specs.Orders.{queue_before}
 use Rattle.sheet.specs.Contents.{traffic_of}
-use Rattle.search.specs.Coming.{held, work}
-use Rattle.search.specs.Queues.{AllCome, queue_at}
+use Rattle.coming.specs.Coming.{Due}
+use Rattle.coming.specs.Rising.{Rises}
 use Rattle.search.specs.Search.{admitted}
-use Rattle.search.specs.Left.{lefts}
-use Rattle.search.specs.Tallies.{standing}
+use Rattle.search.specs.Packets.{cycle_packets}
 use Rattle.search.specs.Trials.{Tried}
 use Rattle.search.proofs.trials.admit.Given as goal
 
 abbrev pub invariant-loop-job : goal.invariant-loop-job
 invariant-loop-job l =
-    (a : ℕ)
-    × (AllCome (traffic_of l.sheet) l.sheet.cycle l.queues
-    × (Tried l.cycle a l.windows l.trials
-    × (AllByRecursion (λ n. a ≤ n.packet.arrival) (held (queue_at l.queues 0))
-    × (admitted l.sheet.cycle (lefts (traffic_of l.sheet) l.sheet.cycle l.queues 0) (standing l.windows l.trials.tally)
-    ≡ admitted l.sheet.cycle (lefts (traffic_of l.sheet) l.sheet.cycle l.initial.queues 0) (standing l.initial.windows l.initial.trials.tally)))))
-
-abbrev pub decreases-loop-job : goal.decreases-loop-job
-decreases-loop-job l = work l.sheet.cycle (held (queue_at l.queues 0))
+    (goal.iterator-loop-job).can_next l.job-iterator
+    × (goal.iterator-loop-job).is_finite l.job-iterator
+    × ((a : ℕ)
+    × Tried a l.schedule.windows l.trials
+    × AllByRecursion (λ p. a ≤ p.arrival) l.job-iterator)
+    × AllByRecursion (Due (traffic_of l.sheet) l.sheet.cycle 0) l.job-iterator
+    × Rises queue_before l.job-iterator
+    × (l.schedule.long ≡ l.sheet.cycle)
+    × (admitted l.sheet.cycle l.job-iterator l.schedule.windows ≡ admitted l.sheet.cycle (cycle_packets l.sheet).optional l.initial.schedule.windows)

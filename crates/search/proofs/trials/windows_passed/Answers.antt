@@ -1,19 +1,27 @@
--- One window more that ends by then.
-use Rattle.std.proofs.Common.{◌<◌, ◌≤◌, length, get_or, arith}
-use Rattle.std.proofs.ByRecursion.{All-more}
+-- Those that are known to end by then, and those behind them.
+use Rattle.std.proofs.Common.{◌≡◌, ℕ, ◌+◌, ◌-◌, leb, length, take, drop, sym, ap, ◌∙◌, subst, arith}
+use Rattle.std.specs.List.{prefix_len}
+use Rattle.std.proofs.lemmas.List.{take_all, length-drop, length-take}
+use Rattle.std.proofs.lemmas.List.Sums.{prefix_len-le-length}
+use Rattle.search.specs.declared.window.Window.{Window}
 use Rattle.search.specs.Windows.{end}
-use Rattle.search.specs.Trials.{EndsBy}
-use Rattle.search.proofs.Entries.{no_window}
-use Rattle.search.proofs.Rooms.{fits_at}
+use Rattle.search.specs.Trials.{Passed}
+use Rattle.search.proofs.Admits.{passed_more}
 use Rattle.search.proofs.trials.windows_passed.Goals as goal
 
-pub end-requires : goal.end-requires
-end-requires c = let early = fits_at c.args.windows.now c.loop-at.at c.loop-at-test.true c.requires.fit in omega arith
+pub overflow_add-result : goal.overflow_add-result
+overflow_add-result c =
+    let few = prefix_len-le-length (λ (w : Window). leb (end w) c.args.low) (take (length c.args.windows.now - c.args.from) (drop c.args.from c.args.windows.now)) in
+    let short = length-take (length c.args.windows.now - c.args.from) (drop c.args.from c.args.windows.now) in
+    let long = length-drop c.args.from c.args.windows.now in
+    let size = c.well_formed in
+    omega (arith, c.ended.ensures, c.requires.passed.within)
 
-pub loop-at-preserved : goal.loop-at-preserved
-loop-at-preserved c =
+pub returns : goal.returns
+returns c =
     let ws = c.args.windows.now in
-    let i = c.loop-at.at in
-    let within : i < length ws = c.loop-at-test.true in
-    let here : end (get_or ws i no_window) ≤ c.args.low = omega (arith, c.end.ensures) in
-    record { within = omega arith; ended = All-more (EndsBy c.args.low) ws i no_window within c.loop-at.invariant.ended here }
+    let n = c.args.from in
+    let low = c.args.low in
+    let long = length-drop n ws in
+    let is : c.ended.result ≡ prefix_len (λ w. leb (end w) low) (drop n ws) = c.ended.ensures ∙ ap (prefix_len (λ (w : Window). leb (end w) low)) (take_all (length ws - n) (drop n ws) (omega arith)) in
+    subst (λ (k : ℕ). Passed low (n + k) ws) (sym is) (passed_more low n ws c.requires.passed)
