@@ -14,7 +14,7 @@ pub struct Entry {
 }
 
 impl Entry {
-    // The entry of a memory that is all zero.
+    // The entry of a memory that is all zero. A constant, which a derived `Default` is not.
     pub const ZERO: Entry = Entry {
         gates: 0,
         interval: 0,

@@ -58,7 +58,7 @@ const KEYS: [Key; 10] = [
     Key::Flows,
 ];
 
-// The bytes of a key.
+// The bytes of a key. They are compared, never printed, so no `Display` has them.
 fn key_text(key: Key) -> &'static [u8]
     ensures { result.now ≡ key_text key }
 {
