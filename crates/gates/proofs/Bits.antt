@@ -1,9 +1,11 @@
 -- The gates as bits of a number.
-use Rattle.std.proofs.Common.{◌≡◌, ℕ, zero, suc, ◌/◌, ◌%◌, ◌^◌, ◌<◌, ◌≤◌, true, false, eqb, Some, sym, refl, ap, ◌∙◌, ⊎_elim, div-one, arith}
+use Rattle.std.proofs.Common.{◌≡◌, ℕ, zero, suc, ◌/◌, ◌%◌, ◌^◌, ◌<◌, ◌≤◌, true, false, eqb, cond, Option, Some, None, is_some, IfSome, w8, sym, refl, ap, ◌∙◌, ⊎_elim, div-one, arith}
 use native.Mathlib.Nat.{pow-succ', div-div-eq-div-mul, mul-mod_right, mul-div_right}
+use lib.Count.{ones, count_trailing_zeros}
 use lib.Pow.{pow-lt}
-use Rattle.std.proofs.lemmas.Bool.{cases_Bool, both_ways, eqb-true, eq-eqb, ne_eqb, cases_lt}
-use Rattle.gates.specs.Open.{opens, alone_below, gates_at}
+use Rattle.std.proofs.lemmas.Bool.{cases_Bool, both_ways, eqb-true, eq-eqb, ne_eqb, cases_lt, agree_below_at}
+use Rattle.std.specs.Int.{is_power_of_two, trailing_zeros}
+use Rattle.gates.specs.Open.{opens, alone_below, gates_at, gate_of}
 use Rattle.gates.specs.OpenLaws.{OneGateOpen}
 use Rattle.gates.proofs.Stays.{zero_shut}
 
@@ -91,3 +93,25 @@ one_gate_open list o q small =
       (λ found. let e = alone_some 8 g q found in (ap (opens q) e ∙ pow-opens q, λ r k. one_gate r q (rw e at k))),
       (λ on one. let p = pow_from_one 8 q g small on one in ap (alone_below 8) p.0 ∙ alone-pow 8 q p.1),
     )
+
+-- a power of two below 256 opens the gate of its exponent alone, and no other number opens one alone
+abbrev code : Option ℕ → ℕ
+code None = 0
+code (Some q) = suc q
+
+same_code : (a b : Option ℕ) → code a ≡ code b → a ≡ b
+same_code None None e = refl
+same_code None (Some q) e = cc
+same_code (Some p) None e = cc
+same_code (Some p) (Some q) e = let same : p ≡ q = cc in ap Some same
+
+abbrev lowest : ℕ → Option ℕ
+lowest g = cond (is_power_of_two g) (Some (trailing_zeros w8 g)) None
+
+gate_is : (g : ℕ) → g < 256 → lowest g ≡ gate_of g
+unfolding ones count_trailing_zeros
+gate_is g h = same_code _ _ (eqb-true _ _ (agree_below_at (λ n. eqb (code (lowest n)) (code (gate_of n))) (λ _. true) 256 g refl h))
+
+pub gate_from_bits : (g : ℕ) (r : Option ℕ) → g < 256 → is_some r ≡ is_power_of_two g → IfSome r (λ q. q ≡ trailing_zeros w8 g) → r ≡ gate_of g
+gate_from_bits g None h some is = rw (← some) at (gate_is g h)
+gate_from_bits g (Some q) h some is = ap Some is ∙ rw (← some) at (gate_is g h)

@@ -1,50 +1,41 @@
 -- The digits of a number, written from the last to the first.
-use Rattle.std.proofs.Common.{◌≡◌, ℕ, ◌+◌, ◌-◌, ◌/◌, ◌%◌, ◌^◌, ◌<◌, ◌≤◌, List, [], ◌∷◌, ◌++◌, length, set, decimal, sym, ap, ◌∙◌, subst, arith}
-use Rattle.std.proofs.lemmas.List.{append-nil, append_assoc, length-append}
+use Rattle.std.proofs.Common.{◌≡◌, ℕ, ◌+◌, ◌/◌, ◌%◌, ◌^◌, ◌<◌, ◌≤◌, List, [], ◌∷◌, ◌++◌, length, drop, set, decimal, sym, ap, ◌∙◌, ⊎_elim, arith}
+use Rattle.std.proofs.lemmas.Bool.{cases_lt}
+use Rattle.std.proofs.lemmas.List.{append_assoc, length-append, length-drop, drop-set}
 use Rattle.std.proofs.lemmas.Fmt.{decimal_digit, decimal_step, decimal_nonempty}
-use Rattle.gates.specs.Writes.{WrittenAt}
-use Rattle.gates.proofs.Writing.{written_none, written_before}
 
--- the last digits of n stand from at up to end, and rest is the number in front of them
-pub record Spelling (n rest at end : ℕ) (before after : List ℕ) : Type 0 where
-  pub last : List ℕ
-  pub splits : decimal n ≡ decimal rest ++ last
-  pub stands : WrittenAt last at end before after
+-- all but the first digits of n are written, and rest is the number that those spell; where none is left, all are
+pub record Spelling (n rest left : ℕ) (m : List ℕ) : Type 0 where
+  pub part : 0 < left → decimal n ≡ decimal rest ++ drop left m
+  pub whole : left ≡ 0 → m ≡ decimal n
   pub least : rest ≤ n
 
--- no digit yet
-pub spelling_none : (n end : ℕ) (m : List ℕ) → Spelling n n end end m m
-spelling_none n end m = record { last = []; splits = sym (append-nil (decimal n)); stands = written_none end m; least = omega arith }
-
--- there is room for a digit more
-pub spelling_room : (n rest at end : ℕ) (m m' : List ℕ) → n < 2 ^ 32 → length (decimal n) ≤ end → Spelling n rest at end m m' → (0 < at) × (at ≤ end)
-spelling_room n rest at end m m' small long s =
-    let l : length (decimal n) ≡ length (decimal rest) + length s.last = ap length s.splits ∙ length-append (decimal rest) s.last in
-    let r = s.least in
-    let some = decimal_nonempty rest (omega arith) in
-    let e = s.stands.ends in
-    (omega arith, omega arith)
-
 -- a digit more
-pub spelling_more : (n rest at end : ℕ) (m m' : List ℕ) → n < 2 ^ 32 → length (decimal n) ≤ end → end ≤ length m → 10 ≤ rest → Spelling n rest at end m m' → Spelling n (rest / 10) (at - 1) end m (set m' (at - 1) (48 + rest % 10))
-spelling_more n rest at end m m' small long room more s =
+pub spelling_more : (n rest left : ℕ) (m : List ℕ) → n < 2 ^ 32 → length m ≡ length (decimal n) → left < length m → Spelling n rest (left + 1) m → Spelling n (rest / 10) left (set m left (48 + rest % 10))
+spelling_more n rest left m small long room s =
     let d = 48 + rest % 10 in
     let r = s.least in
-    let h = spelling_room n rest at end m m' small long s in
+    let split = s.part (omega arith) in
+    let last = drop-set m left d room in
+    let count : length (decimal rest) ≡ left + 1 =
+    omega (arith, ap length split ∙ length-append (decimal rest) (drop (left + 1) m), length-drop (left + 1) m) in
+    ⊎_elim
+    (λ (one : rest < 10).
+    let digit = decimal_digit rest one in
+    let single : length (decimal rest) ≡ 1 = ap length digit in
+    let same : 48 + rest % 10 ≡ 48 + rest = omega arith in
     record {
-      last = d ∷ s.last;
-      splits = s.splits ∙ ap (λ l. l ++ s.last) (decimal_step rest more (omega arith)) ∙ append_assoc (decimal (rest / 10)) (d ∷ []) s.last;
-      stands = written_before d s.last at end m m' h.0 room s.stands;
+      part = λ l. absurd (omega arith);
+      whole = λ e. sym (ap (λ k. drop k (set m left d)) e) ∙ last ∙ ap (λ x. x ∷ drop (left + 1) m) same ∙ sym (split ∙ ap (λ ds. ds ++ drop (left + 1) m) digit);
       least = omega arith;
-    }
-
--- the first digit
-pub spelling_all : (n rest at end : ℕ) (m m' : List ℕ) → n < 2 ^ 32 → length (decimal n) ≤ end → end ≤ length m → rest < 10 → Spelling n rest at end m m' → WrittenAt (decimal n) (end - length (decimal n)) end m (set m' (at - 1) (48 + rest))
-spelling_all n rest at end m m' small long room one s =
-    let h = spelling_room n rest at end m m' small long s in
-    let w = written_before (48 + rest) s.last at end m m' h.0 room s.stands in
-    let all : decimal n ≡ (48 + rest) ∷ s.last = s.splits ∙ ap (λ l. l ++ s.last) (decimal_digit rest one) in
-    let e = w.ends in
-    let from : at - 1 ≡ end - length ((48 + rest) ∷ s.last) = omega arith in
-    let P : List ℕ → ℕ → Type 0 = λ ds a. WrittenAt ds a end m (set m' (at - 1) (48 + rest)) in
-    rw all (subst (P ((48 + rest) ∷ s.last)) from w)
+    })
+    (λ (more : 10 ≤ rest).
+    let step = decimal_step rest more (omega arith) in
+    let some = decimal_nonempty (rest / 10) (omega arith) in
+    let count' : length (decimal rest) ≡ length (decimal (rest / 10)) + 1 = ap length step ∙ length-append (decimal (rest / 10)) (d ∷ []) in
+    record {
+      part = λ l. split ∙ ap (λ ds. ds ++ drop (left + 1) m) step ∙ append_assoc (decimal (rest / 10)) (d ∷ []) (drop (left + 1) m) ∙ ap (λ ds. decimal (rest / 10) ++ ds) (sym last);
+      whole = λ e. absurd (omega arith);
+      least = omega arith;
+    })
+    (cases_lt rest 10)

@@ -1,9 +1,9 @@
 -- How long a gate stays open.
-use Rattle.std.proofs.Common.{◌≡◌, ℕ, zero, suc, ◌+◌, ◌-◌, ◌<◌, ◌≤◌, true, false, cond, ltb, leb, List, [], ◌∷◌, ◌++◌, sym, refl, ap, ◌∙◌, ⊎_elim, arith}
+use Rattle.std.proofs.Common.{◌≡◌, MatchOption, ℕ, zero, suc, ◌+◌, ◌-◌, ◌<◌, ◌≤◌, true, false, cond, ltb, leb, List, [], ◌∷◌, ◌++◌, sym, refl, ap, ◌∙◌, ⊎_elim, arith}
 use native.Mathlib.Nat.{zero-div}
 use Rattle.std.proofs.lemmas.Bool.{cases_Bool, both_ways, and_from, and_parts, lt-ltb, le-ltb, ltb-true, ltb-false, leb-true, leb-false, le-leb, cases_lt}
 use Rattle.gates.specs.declared.entry.Entry.{Entry}
-use Rattle.gates.specs.Open.{opens, gates_at, stays_open, open_for}
+use Rattle.gates.specs.Open.{opens, entry_at, gates_at, stays_open, open_for}
 use Rattle.gates.specs.OpenLaws.{StaysFor, OneStretch, merged}
 
 -- with no gates none is open
@@ -16,6 +16,15 @@ at_here x xs v h = let on : ltb v x.interval ≡ true = lt-ltb _ _ h in rw on
 
 pub at_later : (x : Entry) (xs : List Entry) (v u : ℕ) → v ≡ x.interval + u → gates_at (x ∷ xs) v ≡ gates_at xs u
 at_later x xs v u e = let off : ltb v x.interval ≡ false = le-ltb _ _ (omega arith) in let d : v - x.interval ≡ u = omega arith in rw (off, d)
+
+-- the gates are those of the entry there
+pub gates_from_entry : (xs : List Entry) (o r : ℕ) → MatchOption (entry_at xs o) (r ≡ 0) (λ p. r ≡ p.0.gates) → r ≡ gates_at xs o
+gates_from_entry [] o r h = h
+gates_from_entry (x ∷ xs) o r h =
+    ⊎_elim
+    (λ (l : ltb o x.interval ≡ true). rw l (rw l at h))
+    (λ (l : ltb o x.interval ≡ false). rw l (gates_from_entry xs (o - x.interval) r (rw l at h)))
+    (cases_Bool (ltb o x.interval))
 
 -- the three ways of `open_for`
 pub for_open_here : (x : Entry) (xs : List Entry) (q o : ℕ) → o < x.interval → opens q x.gates ≡ true → open_for (x ∷ xs) q o ≡ (x.interval - o) + open_for xs q 0

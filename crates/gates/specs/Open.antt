@@ -6,6 +6,11 @@ use Rattle.gates.specs.declared.entry.Entry.{Entry}
 abbrev pub opens : ℕ → ℕ → Bool
 opens q gates = gates / 2 ^ q % 2 == 1
 
+-- the entry at an offset, and how much of its interval is left there: none past the end of the list
+abbrev pub entry_at : List Entry → ℕ → Option (Entry × ℕ)
+entry_at [] o = None
+entry_at (x ∷ xs) o = cond (nat_lt o x.interval) (Some (x, x.interval - o)) (entry_at xs (o - x.interval))
+
 -- the gates at an offset: none past the end of the list
 abbrev pub gates_at : List Entry → ℕ → ℕ
 gates_at [] o = 0

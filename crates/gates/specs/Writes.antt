@@ -5,6 +5,7 @@ use Rattle.refusal.specs.Told.{plain}
 use Rattle.gates.specs.declared.entry.Entry.{Entry}
 use Rattle.gates.specs.declared.text.WriteFault.{WriteFault}
 use Rattle.gates.specs.declared.text.WriteFault.TheVariants.{Entries, Memory}
+use Rattle.gates.specs.declared.text.writer.Writer.{Writer}
 use Rattle.gates.specs.Text.{list_text}
 
 -- the bytes bs were written from at up to end; what stood before at and from end on stayed
@@ -12,6 +13,11 @@ pub record WrittenAt (bs : List ℕ) (at end : ℕ) (before after : List ℕ) : 
   pub ends : end ≡ at + length bs
   pub front : take end after ≡ take at before ++ bs
   pub behind : drop end after ≡ drop end before
+
+-- a writer wrote the bytes bs behind what it had written, into the same memory
+pub record Wrote (bs : List ℕ) (before after : Writer) : Type 0 where
+  pub written : WrittenAt bs before.at after.at before.memory.now after.memory.now
+  pub same_memory : after.memory.ghost_name ≡ before.memory.ghost_name
 
 -- why a list is not written into a memory of so many bytes, if it is not
 abbrev pub write_fault : List Entry → ℕ → Option WriteFault

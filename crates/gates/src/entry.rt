@@ -1,5 +1,8 @@
 // The entries that a gate list is made of.
 
+// The most entries of a list.
+pub const MOST_ENTRIES: usize = 1024;
+
 // One step of a gate list: for `interval` nanoseconds the gates stand as `gates` says, bit q opening queue q.
 // `flow` and `number` name an optional packet that the list admits; both are 0 where none is named.
 #[derive(Clone, Copy, PartialEq, Eq, Debug)]

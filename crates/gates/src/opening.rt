@@ -1,6 +1,6 @@
 // Which gate is open at an offset of a list, and how long it stays open.
 ghost use Rattle.std.specs.Prelude.{◌≡◌, ◌-◌, ◌^◌, min};
-ghost use Rattle.gates.specs.Open.{opens, gates_at, gate_of, open_at, open_for};
+ghost use Rattle.gates.specs.Open.{opens, entry_at, gates_at, gate_of, open_at, open_for};
 ghost use Rattle.gates.specs.OpenLaws.{OneGateOpen, StaysFor, OneStretch};
 
 use crate::entry::Entry;
@@ -18,35 +18,35 @@ pub fn opens(gates: u8, queue: u8) -> bool
     queue < QUEUES && (gates >> queue) % 2 == 1
 }
 
+// The entry at an offset of a list, and how much of its interval is left there: none past the list's end.
+pub fn entry_at(list: &[Entry], offset: u64) -> Option<(Entry, u64)>
+    ensures { result ≡ entry_at list.now offset }
+{
+    let mut ahead = offset;
+    for entry in list {
+        let interval = entry.interval as u64;
+        if ahead < interval {
+            return Some((*entry, interval - ahead));
+        }
+        ahead -= interval;
+    }
+    None
+}
+
 // The gates at an offset of a list: none past its end.
 pub fn gates_at(list: &[Entry], offset: u64) -> u8
     ensures { result ≡ gates_at list.now offset }
 {
-    let mut ahead = offset;
-    for entry in list {
-        if ahead < entry.interval as u64 {
-            return entry.gates;
-        }
-        ahead -= entry.interval as u64;
-    }
-    0
+    entry_at(list, offset).map_or(0, |(entry, _)| entry.gates)
 }
 
 // The queue whose gate alone `gates` opens, if there is one.
 fn gate_of(gates: u8) -> Option<u8>
     ensures { result ≡ gate_of gates }
 {
-    match gates {
-        1 => Some(0),
-        2 => Some(1),
-        4 => Some(2),
-        8 => Some(3),
-        16 => Some(4),
-        32 => Some(5),
-        64 => Some(6),
-        128 => Some(7),
-        _ => None,
-    }
+    gates
+        .is_power_of_two()
+        .then(|| gates.trailing_zeros() as u8)
 }
 
 // The queue whose gate alone is open at an offset of a list, if there is one.
@@ -63,6 +63,7 @@ pub fn open_for(list: &[Entry], queue: u8, offset: u64) -> u64
     ensures stays { StaysFor }
     ensures stretch { OneStretch }
 {
+    // a chain is no plainer: it passes over entries of length 0, open or not, and its sum may not fit
     let mut ahead = offset;
     let mut time: u64 = 0;
     for entry in list {

@@ -1,20 +1,21 @@
 // The text of a gate list, written into a caller's memory.
-ghost use Rattle.std.specs.Prelude.{◌≡◌, ◌+◌, ◌≤◌, length, Some, MatchResult};
-ghost use Rattle.gates.specs.Text.{entry_text, list_text, OneText};
+ghost use Rattle.std.specs.Prelude.{◌≡◌, ◌*◌, ◌≤◌, ◌⊎◌, length, Some, MatchResult};
+ghost use Rattle.gates.specs.Text.{list_text, OneText};
 ghost use Rattle.gates.specs.Writes.{WrittenAt, Listed, write_fault, refusal_of};
 
-use crate::entry::Entry;
-use crate::text::digits::write_field;
-use crate::text::lengths::{ample_length, text_length};
+use crate::entry::{Entry, MOST_ENTRIES};
+use crate::text::lengths::text_length;
+use crate::text::writer::Writer;
 use refusal::Refusal;
 
 mod digits;
 mod lengths;
 #[cfg(test)]
 mod tests;
+mod writer;
 
-// The most entries of a list.
-const MOST_ENTRIES: usize = 1024;
+// The most bytes of a line: two numbers of up to 3 digits, two of up to 10, and a byte behind each.
+const LINE_BYTES: usize = 30;
 
 // Why a list is not written.
 #[derive(Clone, Copy, PartialEq, Eq, Debug)]
@@ -37,27 +38,17 @@ impl WriteFault {
     }
 }
 
-// Writes an entry's line from `at` on, and answers where it ends.
-fn write_entry(entry: Entry, memory: &mut [u8], at: usize) -> usize
-    requires { at + length (entry_text entry) ≤ length memory.old }
-    ensures { WrittenAt (entry_text entry) at result memory.old memory.new }
-{
-    let after_gates = write_field(entry.gates as u32, b' ', memory, at);
-    let after_interval = write_field(entry.interval, b' ', memory, after_gates);
-    let after_flow = write_field(entry.flow as u32, b' ', memory, after_interval);
-    write_field(entry.number, b'\n', memory, after_flow)
-}
-
 // Writes the lines of a list from the beginning of the memory on, and answers where they end.
+// There is room for them, or for any lines so many.
 fn write_entries(list: &[Entry], memory: &mut [u8]) -> usize
-    requires { length (list_text list.now) ≤ length memory.old }
+    requires { (length (list_text list.now) ≤ length memory.old) ⊎ (30 * length list.now ≤ length memory.old) }
     ensures { WrittenAt (list_text list.now) 0 result memory.old memory.new }
 {
-    let mut at: usize = 0;
+    let mut writer = Writer { memory, at: 0 };
     for entry in list {
-        at = write_entry(*entry, memory, at);
+        writer.entry(*entry);
     }
-    at
+    writer.at
 }
 
 // Writes the text of a list to the beginning of the memory, and answers its length.
@@ -72,7 +63,8 @@ pub fn write_list(list: &[Entry], memory: &mut [u8]) -> Result<usize, WriteFault
     if list.is_empty() || list.len() > MOST_ENTRIES {
         return Err(WriteFault::Entries);
     }
-    if memory.len() < ample_length(list) && memory.len() < text_length(list) {
+    // An ample memory needs no count of digits.
+    if memory.len() < LINE_BYTES * list.len() && memory.len() < text_length(list) {
         return Err(WriteFault::Memory);
     }
     Ok(write_entries(list, memory))

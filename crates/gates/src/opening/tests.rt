@@ -1,25 +1,21 @@
 // Open gates of an example: queue 7 for 700 instants in two entries, all shut for 300, queue 0 for 100.
 use crate::entry::Entry;
-use crate::opening::{open_at, open_for};
+use crate::opening::{entry_at, open_at, open_for};
 
 const LIST: [Entry; 4] = [
     Entry {
         gates: 128,
         interval: 600,
-        flow: 0,
-        number: 0,
+        ..Entry::ZERO
     },
     Entry {
         gates: 128,
         interval: 100,
-        flow: 0,
-        number: 0,
+        ..Entry::ZERO
     },
     Entry {
-        gates: 0,
         interval: 300,
-        flow: 0,
-        number: 0,
+        ..Entry::ZERO
     },
     Entry {
         gates: 1,
@@ -28,6 +24,13 @@ const LIST: [Entry; 4] = [
         number: 2,
     },
 ];
+
+#[test]
+fn entries_at_offsets(rt: HostRuntime) {
+    assert_eq!(rt; entry_at(&LIST, 599), Some((LIST[0], 1)));
+    assert_eq!(rt; entry_at(&LIST, 600), Some((LIST[1], 100)));
+    assert_eq!(rt; entry_at(&LIST, 1100), None);
+}
 
 #[test]
 fn open_queues(rt: HostRuntime) {

@@ -3,18 +3,15 @@ use crate::entry::Entry;
 use crate::text::{WriteFault, write_list};
 
 const CLOSED: Entry = Entry {
-    gates: 0,
     interval: 9328,
-    flow: 0,
-    number: 0,
+    ..Entry::ZERO
 };
 
 const SAMPLE: [Entry; 4] = [
     Entry {
         gates: 128,
         interval: 672,
-        flow: 0,
-        number: 0,
+        ..Entry::ZERO
     },
     CLOSED,
     Entry {

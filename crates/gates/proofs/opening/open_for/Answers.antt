@@ -1,26 +1,11 @@
 -- One entry after another.
-use Rattle.std.proofs.Common.{◌≡◌, ◌+◌, ◌-◌, true, false, get_or, drop, sym, ap, ◌∙◌, arith}
-use Rattle.std.proofs.lemmas.List.{drop_more, drop_all}
+use Rattle.std.proofs.Common.{◌≡◌, ◌+◌, ◌-◌, true, get_or, drop, sym, ap, ◌∙◌, arith}
+use Rattle.std.proofs.lemmas.List.{drop_more}
 use Rattle.gates.specs.Open.{opens, open_for}
-use Rattle.gates.proofs.Stays.{for_open_here, for_shut_here, for_later, stays_for, one_stretch}
+use Rattle.gates.proofs.Stays.{for_open_here, for_later, stays_for, one_stretch}
 use Rattle.gates.specs.Entries.{no_entry}
 use Rattle.gates.proofs.opening.open_for.Goals as goal
 use Rattle.gates.proofs.opening.open_for.Goals.{then-ahead-interval, else-ahead-interval+then-opens}
-
-pub loop-entry-init : goal.loop-entry-init
-loop-entry-init c = (omega arith, omega arith)
-
-pub returns-else-opens : goal.returns-else-opens
-returns-else-opens c =
-    let xs = c.args.list.now in
-    let i = c.loop-entry.entry-index in
-    let ahead = c.loop-entry.ahead in
-    let x = get_or xs i no_entry in
-    let off : opens c.args.queue x.gates ≡ false = sym c.opens.ensures ∙ c.if-opens.false in
-    let none =
-    ap (λ l. open_for l c.args.queue ahead) (drop_more xs i no_entry c.loop-entry-test.true)
-    ∙ for_shut_here x (drop (i + 1) xs) c.args.queue ahead (omega arith) off in
-    record { value = omega arith; stays = stays_for; stretch = one_stretch }
 
 pub loop-entry-preserved : goal.loop-entry-preserved
 loop-entry-preserved c =
@@ -48,7 +33,14 @@ loop-entry-preserved c =
           (omega arith, omega arith)
     ]
 
-pub returns : goal.returns
-returns c =
-    let none = ap (λ l. open_for l c.args.queue c.loop-entry.ahead) (drop_all c.loop-entry.entry-index c.args.list.now c.loop-entry-test.false) in
-    record { value = omega arith; stays = stays_for; stretch = one_stretch }
+pub returns-else-opens-clause-stays : goal.returns-else-opens-clause-stays
+returns-else-opens-clause-stays c = stays_for
+
+pub returns-else-opens-clause-stretch : goal.returns-else-opens-clause-stretch
+returns-else-opens-clause-stretch c = one_stretch
+
+pub returns-clause-stays : goal.returns-clause-stays
+returns-clause-stays c = stays_for
+
+pub returns-clause-stretch : goal.returns-clause-stretch
+returns-clause-stretch c = one_stretch

@@ -1,7 +1,0 @@
--- The first lines are no longer than 30 bytes each.
-use Rattle.std.proofs.Common.{◌≡◌, ◌*◌, ◌≤◌, length, take}
-use Rattle.gates.specs.Text.{list_text}
-use Rattle.gates.proofs.text.lengths.ample_length.Given as goal
-
-abbrev pub invariant-loop-entry : goal.invariant-loop-entry
-invariant-loop-entry l = (length (list_text (take l.entry-index l.list)) ≤ l.total) × (l.total ≡ 30 * l.entry-index)
