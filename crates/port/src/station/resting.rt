@@ -5,19 +5,13 @@ ghost use Rattle.port.specs.Quiet.{Lasts, Unsent, steady, rests_until};
 
 use super::Station;
 use gates::entry::Entry;
+use gates::opening::entry_at;
 
 // How long the gates stay as they are from an offset of a list on, within its entry; 0 past the end of the list.
 fn steady(list: &[Entry], offset: u64) -> u64
     ensures { result ≡ steady list.now offset }
 {
-    let mut ahead = offset;
-    for entry in list {
-        if ahead < entry.interval as u64 {
-            return entry.interval as u64 - ahead;
-        }
-        ahead -= entry.interval as u64;
-    }
-    0
+    entry_at(list, offset).map_or(0, |(_, left)| left)
 }
 
 impl<'a> Station<'a> {
