@@ -76,7 +76,7 @@ module _ (clock : ℕ) (list : List Entry) (pending : Option (List Entry)) (x : 
         λ i. record { state = state i; clock = later i; list = here i; pending = pends-now i; last = last i; counts = counts i }
 
     -- the instant at the clock was decided
-    pub decided_all : (z.sheet ≡ x.sheet) × ((port_of (clock + 1) es pends z ≡ (decide s p source).port) × ((rest ≡ (decide s p source).left) × (r ≡ (decide s p source).start)))
+    pub decided_all : (z.sheet ≡ x.sheet) × (port_of (clock + 1) es pends z ≡ (decide s p source).port) × (rest ≡ (decide s p source).left) × (r ≡ (decide s p source).start)
     decided_all = (same_sheet, decided_port, decided-left, decided_start)
 
     -- and there still is room

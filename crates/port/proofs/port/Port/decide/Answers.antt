@@ -25,5 +25,5 @@ pub returns : goal.returns
 returns g c =
     let m = c.args.self.now in
     let all = decided_all m.clock m.list.now (option_map (λ x. x.now) m.pending) m.station c.offset-offset.result c.offset-offset.ensures.value c.in_force.result.0.now c.in_force.ensures.force (option_map (λ x. x.now) c.in_force.result.1) c.in_force.ensures.pends
-        (g.S.ArrivalSource.arrivals c.args.source.now) (g.S.ArrivalSource.arrivals c.take_arrived.new.source) c.take_arrived.new.self c.send-start.new.self c.send-start.result c.take_arrived.ensures c.send-start.ensures in
+    (g.S.ArrivalSource.arrivals c.args.source.now) (g.S.ArrivalSource.arrivals c.take_arrived.new.source) c.take_arrived.new.self c.send-start.new.self c.send-start.result c.take_arrived.ensures c.send-start.ensures in
     record { sheet = all.0; port = all.1; left = all.2; starts = all.3 }
