@@ -1,5 +1,5 @@
 -- What cannot start at an offset cannot start later in the same entry. Assumes nothing.
-use Rattle.std.proofs.Common.{◌≡◌, ℕ, zero, suc, ◌+◌, ◌-◌, ◌%◌, ◌<◌, ◌≤◌, Bool, true, false, cond, eqb, ltb, List, [], ◌∷◌, map, length, get_or, Some, None, Option, sym, refl, ap, ◌∙◌, subst, ⊎_elim, arith}
+use Rattle.std.proofs.Common.{◌≡◌, ℕ, zero, suc, ◌+◌, ◌-◌, ◌%◌, ◌<◌, ◌≤◌, true, false, eqb, ltb, List, [], ◌∷◌, map, length, get_or, Some, None, Option, sym, refl, ap, ◌∙◌, subst, ⊎_elim, arith}
 use Rattle.std.specs.List.{list_all, slice_get}
 use Rattle.std.proofs.lemmas.Bool.{and_parts, cond-false, eqb-true, cases_Bool, cases_lt, both_ways, ltb-true, ltb-false}
 use Rattle.traffic.specs.declared.packet.Job.{Job}
@@ -20,13 +20,13 @@ use Rattle.port.proofs.Passing.{offset_later}
 -- within an entry the gates are the same
 pub steady_gates : (es : List Entry) (o k : ℕ) → k < steady es o → gates_at es (o + k) ≡ gates_at es o
 steady_gates [] o k h = absurd (omega arith)
-steady_gates (x ∷ xs) o k h = go (ltb o x.interval) refl h (steady_gates xs (o - x.interval) k)
-  where
-    go : (b : Bool) → ltb o x.interval ≡ b → k < cond b (x.interval - o) (steady xs (o - x.interval)) → (k < steady xs (o - x.interval) → gates_at xs ((o - x.interval) + k) ≡ gates_at xs (o - x.interval)) → gates_at (x ∷ xs) (o + k) ≡ gates_at (x ∷ xs) o
-    go true e l ih = let i = ltb-true o x.interval e in at_here x xs (o + k) (omega arith) ∙ sym (at_here x xs o i)
-    go false e l ih =
-        let i = ltb-false o x.interval e in
-        at_later x xs (o + k) ((o - x.interval) + k) (omega arith) ∙ ih l ∙ sym (at_later x xs o (o - x.interval) (omega arith))
+steady_gates (x ∷ xs) o k h = ⊎_elim
+    (λ (on : ltb o x.interval ≡ true). let l : k < x.interval - o = rw on at h in at_here x xs (o + k) (omega arith) ∙ sym (at_here x xs o (ltb-true o x.interval on)))
+    (λ (off : ltb o x.interval ≡ false).
+    let i = ltb-false o x.interval off in
+    let l : k < steady xs (o - x.interval) = rw off at h in
+    at_later x xs (o + k) ((o - x.interval) + k) (omega arith) ∙ steady_gates xs (o - x.interval) k l ∙ sym (at_later x xs o (o - x.interval) (omega arith)))
+    (cases_Bool (ltb o x.interval))
 
 -- a gate that does not stay open for so long does not later either
 pub later_unfit : (es : List Entry) (q o e k : ℕ) → k < steady es o → stays_open es q o e ≡ false → stays_open es q (o + k) e ≡ false

@@ -42,7 +42,7 @@ module _ (clock : ℕ) (list : List Entry) (pending : Option (List Entry)) (x : 
     sheets : sheet_of y ≡ s
     sheets = ap (λ (b : Bor Sheet). traffic_of b.now) took.sheet
 
-    pub same_sheet : z.sheet ≡ x.sheet
+    same_sheet : z.sheet ≡ x.sheet
     same_sheet = sent.sheet ∙ took.sheet
 
     taken_is : taking es clock x source ≡ taken s p source
@@ -55,13 +55,13 @@ module _ (clock : ℕ) (list : List Entry) (pending : Option (List Entry)) (x : 
         let state : state_of y ≡ (taken s p source).state = took.state ∙ ap (λ (k : Taken). k.state) taken_is in
         λ i. send (wire (same i)) (λ q e. stays_open (here i) q (o_is i) e) clock (open_at (here i) (o_is i)) (state i)
 
-    pub decided_start : r ≡ (decide s p source).start
+    decided_start : r ≡ (decide s p source).start
     decided_start = sent.start ∙ ap (λ (k : Turn Packet). k.start) turn_is
 
-    pub decided-left : rest ≡ (decide s p source).left
+    decided-left : rest ≡ (decide s p source).left
     decided-left = took.left ∙ ap (λ (k : Taken). k.left) taken_is
 
-    pub decided_port : port_of (clock + 1) es pends z ≡ (decide s p source).port
+    decided_port : port_of (clock + 1) es pends z ≡ (decide s p source).port
     decided_port =
         let same = sheets in
         let here = in_force-is in
@@ -75,6 +75,10 @@ module _ (clock : ℕ) (list : List Entry) (pending : Option (List Entry)) (x : 
         let counts : counts_of z.counts ≡ with_start s (turn s p source).start (taken s p source).counts = sent.counts ∙ both in
         λ i. record { state = state i; clock = later i; list = here i; pending = pends-now i; last = last i; counts = counts i }
 
-    -- and there still is
+    -- the instant at the clock was decided
+    pub decided_all : (z.sheet ≡ x.sheet) × (port_of (clock + 1) es pends z ≡ (decide s p source).port) × (rest ≡ (decide s p source).left) × (r ≡ (decide s p source).start)
+    decided_all = (same_sheet, decided_port, decided-left, decided_start)
+
+    -- and there still is room
     pub decided_ample : Ample s p → Ample (sheet_of z) (port_of (clock + 1) es pends z)
     decided_ample h = let same = same_sheet in subst (λ (b : Bor Sheet). Ample (traffic_of b.now) (port_of (clock + 1) es pends z)) (sym same) (subst (Ample s) (sym decided_port) (λ life l. h (instant source ∷ life) l))

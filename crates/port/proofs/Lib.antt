@@ -9,4 +9,3 @@ pub mod Deciding
 pub mod Passing
 pub mod Running
 pub mod Blocking
-mod Steady

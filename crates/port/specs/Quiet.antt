@@ -1,12 +1,12 @@
 -- Instants at which nothing happens to a port. Assumes nothing.
-use Rattle.std.specs.Prelude.{◌≡◌, ℕ, ◌+◌, ◌-◌, ◌%◌, ◌<◌, ◌≤◌, min, cond, if◌then◌else◌, List, [], ◌∷◌, Some, None, Option, nat_lt}
+use Rattle.std.specs.Prelude.{◌≡◌, ℕ, ◌+◌, ◌-◌, ◌%◌, ◌<◌, ◌≤◌, min, cond, if◌then◌else◌, List, Some, None, Option, nat_lt}
 use Rattle.std.specs.List.{slice_get}
-use Rattle.std.specs.Option.{is_some}
+use Rattle.std.specs.Option.{is_some, option_map, unwrap_or}
 use Rattle.traffic.specs.declared.packet.Packet.{Packet}
 use Rattle.traffic.specs.declared.packet.Job.{Job}
 use Rattle.traffic.specs.Packets.{Traffic}
 use Rattle.gates.specs.declared.entry.Entry.{Entry}
-use Rattle.gates.specs.Open.{open_at, stays_open}
+use Rattle.gates.specs.Open.{entry_at, open_at, stays_open}
 use Rattle.sending.specs.Sheet.{cycle}
 use Rattle.sending.specs.Port.{State, idle}
 use Rattle.port.specs.declared.station.Station.{Station}
@@ -35,8 +35,7 @@ Unsent s es x i = third_step s es i (i % cycle s) x ≡ idle x
 
 -- how long the gates stay as they are from an offset on, within its entry: 0 past the end of the list
 abbrev pub steady : List Entry → ℕ → ℕ
-steady [] o = 0
-steady (x ∷ xs) o = cond (nat_lt o x.interval) (x.interval - o) (steady xs (o - x.interval))
+steady es o = unwrap_or (option_map (λ a. a.1) (entry_at es o)) 0
 
 -- of the first in queue q: it with its queue, if the gate stays open for it
 abbrev pub fitting : List Entry → (q o : ℕ) → Option Job → Option (ℕ × Job)
