@@ -1,7 +1,7 @@
 -- The list drawn from windows: its length, and one window more. Assumes nothing.
 use Rattle.std.proofs.Common.{◌≡◌, ℕ, ◌+◌, ◌-◌, ◌<◌, ◌≤◌, cond, ltb, List, [], ◌∷◌, ◌++◌, length, get_or, take, drop, set, sym, refl, ap, ◌∙◌, ⊎_elim, append_assoc, arith}
 use Rattle.std.proofs.lemmas.Bool.{cases_Bool}
-use Rattle.std.proofs.lemmas.List.{at_drop_more, at_drop_all, drop-drop, length-take-le, take_more, take-append-drop, take_more_set, drop-set-lt, length-append, append-nil}
+use Rattle.std.proofs.lemmas.List.{at_drop_more, at_drop_all, drop-drop, length-take-le, take_more, take-append-drop, take_more_set, drop-set-lt, length-append}
 use Rattle.gates.specs.declared.entry.Entry.{Entry}
 use Rattle.search.specs.declared.window.Window.{Window}
 use Rattle.search.specs.Windows.{end, last_end, first_start}
@@ -69,9 +69,6 @@ gap_within i b ws =
 -- one entry written
 pub wrote_one : (es : List Entry) (n : ℕ) (e : Entry) → n < length es → Wrote (e ∷ []) n (n + 1) es (set es n e)
 wrote_one es n e h = record { count = refl; front = take_more_set es n e h; behind = drop-set-lt (n + 1) es n e (omega arith) }
-
-pub wrote_none : (es : List Entry) (n : ℕ) → Wrote [] n n es es
-wrote_none es n = record { count = omega arith; front = sym (append-nil (take n es)); behind = refl }
 
 pub closed-append : (a b : ℕ) (es : List Entry) → closed a b [] ++ es ≡ closed a b es
 closed-append a b es = ⊎_elim (λ e. rw e) (λ e. rw e) (cases_Bool (ltb a b))

@@ -2,7 +2,7 @@
 use Rattle.std.proofs.Common.{◌≡◌, ℕ, zero, suc, ◌+◌, ◌<◌, ◌≤◌, true, false, not, ltb, List, [], ◌∷◌, ◌++◌, length, take, drop, Ok, Err, sym, refl, ap, ◌∙◌, subst, ⊎_elim, arith}
 use Rattle.std.specs.List.{AllByRecursion}
 use Rattle.std.proofs.ByRecursion.{All-append, All-take, All-drop}
-use Rattle.std.proofs.lemmas.List.{take_all, drop_all, length-take-le, length-append, length-drop}
+use Rattle.std.proofs.lemmas.List.{length-take-le, length-append, length-drop}
 use Rattle.std.proofs.lemmas.Bool.{cases_Bool, and_from, le-ltb, lt-ltb, ltb-true, ltb-false}
 use Rattle.std.proofs.lemmas.Bool.Decides.{nat_tests}
 use Rattle.table.specs.Order.{in_order, none_before, placed, placed_last}
@@ -122,10 +122,6 @@ inserted_tally long i e more n entries ms ns w ok goes count few same put =
         few = few;
       },
     )
-
--- at the end
-pub inserted-end : (n : ℕ) (w : Window) (ws : List Window) → length ws ≤ n → inserted_at n w ws ≡ ws ++ (w ∷ [])
-inserted-end n w ws h = ap (λ (zs : List Window). zs ++ (w ∷ drop n ws)) (take_all n ws h) ∙ ap (λ (zs : List Window). ws ++ (w ∷ zs)) (drop_all n ws h)
 
 -- the outcomes of one window more
 pub placed_late : (long : ℕ) (ws : List Window) (w : Window) → w.packet.deadline < end w → placed_next long ws w ≡ Err (Late w.packet.flow w.packet.number)

@@ -3,7 +3,7 @@ use Rattle.std.proofs.Common.{◌≡◌, ℕ, zero, suc, ◌+◌, ◌<◌, ◌�
 use Rattle.std.specs.List.{AllByRecursion}
 use Rattle.std.proofs.lemmas.List.{at_drop_more}
 use Rattle.std.proofs.ByRecursion.{All-get_or}
-use Rattle.std.proofs.lemmas.Bool.{le-leb, lt-leb, cond_both}
+use Rattle.std.proofs.lemmas.Bool.{lt-leb, cond_both}
 use Rattle.search.specs.declared.window.Window.{Window}
 use Rattle.search.specs.Windows.{Fits, end, last_end, latest}
 use Rattle.search.specs.Search.{room}
@@ -20,10 +20,7 @@ pub room_from : (s e : ℕ) (ws : List Window) → s ≤ room s e ws
 room_from s e [] = omega arith
 room_from s e (w ∷ ws) = cond_both (leb (s + e) w.start) s (room (max s (end w)) e ws) (λ (r : ℕ). s ≤ r) (λ _. omega arith) (λ _. let h = room_from (max s (end w)) e ws in omega arith)
 
--- in front of a window, or behind it
-pub room-here : (s e : ℕ) (w : Window) (ws : List Window) → s + e ≤ w.start → room s e (w ∷ ws) ≡ s
-room-here s e w ws h = rw (le-leb (s + e) w.start h)
-
+-- behind a window
 pub room_on : (s e : ℕ) (w : Window) (ws : List Window) → w.start < s + e → room s e (w ∷ ws) ≡ room (max s (end w)) e ws
 room_on s e w ws h = rw (lt-leb (s + e) w.start h)
 
@@ -39,9 +36,6 @@ room_passed s e (suc n) (w ∷ ws) some h =
 -- the windows from a place on
 pub room_at_more : (s e i : ℕ) (ws : List Window) → i < length ws → (get_or ws i no_window).start < s + e → room s e (drop i ws) ≡ room (max s (end (get_or ws i no_window))) e (drop (i + 1) ws)
 room_at_more s e i ws h late = at_drop_more (room s e) ws i no_window h ∙ room_on s e (get_or ws i no_window) (drop (i + 1) ws) late
-
-pub room_at_here : (s e i : ℕ) (ws : List Window) → i < length ws → s + e ≤ (get_or ws i no_window).start → room s e (drop i ws) ≡ s
-room_at_here s e i ws h fits = at_drop_more (room s e) ws i no_window h ∙ room-here s e (get_or ws i no_window) (drop (i + 1) ws) fits
 
 pub fits_at : (ws : List Window) (i : ℕ) → i < length ws → AllByRecursion Fits ws → end (get_or ws i no_window) ≤ latest
 fits_at ws i h fit = (All-get_or Fits ws i no_window h fit).early

@@ -120,13 +120,6 @@ walked_fault b long (suc n) t f ws e h = go (λ w zs. walked_fault b long n (end
     go rest None k = let bad : ◌≡◌ {A = ℕ} 0 1 = cc in absurd (omega arith)
     go rest (Some w) k = then_fault long ws w e (walked b long n (end w) (without w.packet.queue f)) (rest w) (placed_next long ws w) refl k
 
--- a search refuses as its walk does, and else draws what the trials leave
-pub planned_err : (b : Job → Job → Bool) (c : Cycle) (e : SearchFault) → walked_over b c.long 0 c.mandatory [] ≡ Err e → planned_list b c ≡ Err e
-planned_err b c e h = ap (λ (r : Result (List Window) SearchFault). and_then (and_then r (λ ws. Ok (admitted c.long c.optional ws))) (λ ws. Ok (drawn 0 ws c.long))) h
-
-pub planned_ok : (b : Job → Job → Bool) (c : Cycle) (ws zs : List Window) → walked_over b c.long 0 c.mandatory [] ≡ Ok ws → zs ≡ admitted c.long c.optional ws → planned_list b c ≡ Ok (drawn 0 zs c.long)
-planned_ok b c ws zs h is = ap (λ (r : Result (List Window) SearchFault). and_then (and_then r (λ ws. Ok (admitted c.long c.optional ws))) (λ ws. Ok (drawn 0 ws c.long))) h ∙ ap (λ (vs : List Window). Ok (drawn 0 vs c.long)) (sym is)
-
 pub planned_fault : (b : Job → Job → Bool) (c : Cycle) (e : SearchFault) → planned_list b c ≡ Err e → InWalk e
 planned_fault b c e h = go (walked_over b c.long 0 c.mandatory []) refl h
   where

@@ -58,7 +58,3 @@ pub record Planned (r : Result (List Entry) SearchFault) (n : ℕ) (before after
 -- the first n entries, and zero beyond
 abbrev pub zero_from : ℕ → List Entry → List Entry
 zero_from n es = take n es ++ replicate (length es - n) no_entry
-
--- as many windows of zeros
-abbrev pub zero_windows : List Window → List Window
-zero_windows ws = replicate (length ws) no_window

@@ -7,28 +7,22 @@ ghost use Rattle.search.specs.Drawn.{closed, entry, drawn, Wrote};
 use crate::window::Window;
 use gates::entry::Entry;
 
-// The end of the window in front of a place, or 0.
-pub(crate) fn end_before(windows: &[Window], place: usize) -> u64
-    requires fit { AllByRecursion Fits windows.now }
-    requires within { place ≤ length windows.now }
-    ensures { result ≡ last_end 0 (take place windows.now) }
+// Where the last of the windows ends, or 0.
+pub(crate) fn end_of_last(windows: &[Window]) -> u64
+    requires { AllByRecursion Fits windows.now }
+    ensures { result ≡ last_end 0 windows.now }
 {
-    if place == 0 {
-        0
-    } else {
-        windows[place - 1].end()
+    match windows.last() {
+        Some(w) => w.end(),
+        None => 0,
     }
 }
 
-// The start of the window at a place, or the end of the cycle.
-pub(crate) fn start_at(windows: &[Window], place: usize, cycle: u64) -> u64
-    ensures { result ≡ first_start (drop place windows.now) cycle }
+// Where the first of the windows starts, or the end of the cycle.
+pub(crate) fn start_of_first(windows: &[Window], cycle: u64) -> u64
+    ensures { result ≡ first_start windows.now cycle }
 {
-    if place < windows.len() {
-        windows[place].start
-    } else {
-        cycle
-    }
+    windows.first().map_or(cycle, |w| w.start)
 }
 
 // One if the stretch from `a` to `b` is not empty.
@@ -44,25 +38,21 @@ fn entry_of(w: &Window) -> Entry
     ensures { result ≡ entry w.now }
 {
     let p = w.packet;
-    let gates = 1 << p.queue;
-    if p.queue == 0 {
-        Entry {
-            gates,
-            interval: p.wire,
-            flow: p.flow,
-            number: p.number as u32,
-        }
+    let (flow, number) = if p.queue == 0 {
+        (p.flow, p.number as u32)
     } else {
-        Entry {
-            gates,
-            interval: p.wire,
-            flow: 0,
-            number: 0,
-        }
+        (0, 0)
+    };
+    Entry {
+        gates: 1 << p.queue,
+        interval: p.wire,
+        flow,
+        number,
     }
 }
 
 // Writes an entry at a place, and answers the place after it.
+// The list and the place stay apart: a struct that held the lent list would owe a clause on its reference at each method.
 fn write(list: &mut [Entry], n: usize, e: Entry) -> usize
     requires { n < length list.old }
     ensures { Wrote (e ∷ []) n result list.old list.new }
@@ -82,10 +72,8 @@ fn close(list: &mut [Entry], n: usize, a: u64, b: u64) -> usize
             list,
             n,
             Entry {
-                gates: 0,
                 interval: (b - a) as u32,
-                flow: 0,
-                number: 0,
+                ..Entry::ZERO
             },
         )
     } else {

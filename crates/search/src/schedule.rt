@@ -6,7 +6,7 @@ ghost use Rattle.search.specs.Drawn.{drawn, inserted_at, Wrote};
 ghost use Rattle.search.specs.Search.{most_entries, inserted};
 ghost use Rattle.search.specs.Schedules.{GoesAt};
 
-use crate::drawing::{draw, end_before, start_at, stretch};
+use crate::drawing::{draw, end_of_last, start_of_first, stretch};
 use crate::window::Window;
 use gates::entry::Entry;
 use std::marker::Model;
@@ -65,9 +65,9 @@ impl<'w> Schedule<'w> {
         requires { Fits w.now × (place ≤ length self.now.windows) }
         ensures { result ≡ length (drawn 0 (inserted_at place w.now self.now.windows) self.now.long) }
     {
-        let windows = self.windows();
-        let before = end_before(windows, place);
-        let after = start_at(windows, place, self.cycle);
+        let (front, back) = self.windows().split_at(place);
+        let before = end_of_last(front);
+        let after = start_of_first(back, self.cycle);
         self.entries - stretch(before, after)
             + stretch(before, w.start)
             + 1

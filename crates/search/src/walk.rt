@@ -25,10 +25,9 @@ fn place(schedule: &mut Schedule, w: Window) -> Result<(), SearchFault>
         return Err(SearchFault::Late(p.flow, p.number));
     }
     let behind = schedule.windows().len();
-    match schedule.insert(behind, w) {
-        Ok(()) => Ok(()),
-        Err(_) => Err(SearchFault::TooLong(p.flow, p.number)),
-    }
+    schedule
+        .insert(behind, w)
+        .map_err(|_| SearchFault::TooLong(p.flow, p.number))
 }
 
 // Gives each mandatory packet its window.

@@ -2,7 +2,7 @@
 use Rattle.std.proofs.Common.{◌≡◌, ℕ, ◌+◌, ◌-◌, ◌<◌, max, length, get_or, take, drop, sym, refl, ap, ◌∙◌, subst, arith}
 use Rattle.std.proofs.lemmas.List.{length-take, get_or-take, get_or-drop}
 use Rattle.search.specs.declared.window.Window.{Window}
-use Rattle.search.specs.Windows.{end, latest}
+use Rattle.search.specs.Windows.{end}
 use Rattle.search.specs.Search.{room}
 use Rattle.search.proofs.Entries.{no_window, last_end-take}
 use Rattle.search.proofs.Rooms.{last_end_passed, room_from, room_at_more, fits_at}
