@@ -8,7 +8,7 @@ ghost use Rattle.sheet.specs.Reading.{sheet_of};
 ghost use Rattle.gates.specs.Writes.{write_fault};
 ghost use Rattle.planner.specs.Answer.{written, sheet_answer, plan_answer};
 
-use gates::entry::Entry;
+use gates::entry::{Entry, MOST_ENTRIES};
 use gates::text::write_list;
 use refusal::{Refusal, refusal_text};
 use search::serving::DeadlineMonotonic;
@@ -17,9 +17,6 @@ use search_laws::lawful_search;
 use sheet::refusals::sheet_refusal;
 use sheet::sheet::Sheet;
 use std::alloc::{AllocError, Global};
-
-// The records of list and window memory that a search is lent.
-const RECORDS: usize = 1_024;
 
 // More bytes than the text of any list: 1,024 lines of at most 30 bytes.
 const LONGEST_TEXT: usize = 30_720;
@@ -37,7 +34,7 @@ fn written_in(heap: Global, list: &[Entry], memory: &mut [u8]) -> Result<Vec<u8>
 {
     match write_list(list, memory) {
         Ok(n) => memory[0..n].to_vec(heap),
-        Err(fault) => refused(heap, fault.refusal()),
+        Err(fault) => refused(heap, Refusal::from(fault)),
     }
 }
 
@@ -71,8 +68,8 @@ fn answer(heap: Global, sheet: &Sheet) -> Result<Vec<u8>, AllocError>
     requires { 0 < length (traffic_of sheet.now).flows }
     ensures { IfOk result (λ v. v.items ≡ sheet_answer (traffic_of sheet.now)) }
 {
-    let mut list = vec![in heap; Entry::ZERO; RECORDS]?;
-    let mut windows = vec![in heap; Window::default(); RECORDS]?;
+    let mut list = vec![in heap; Entry::ZERO; MOST_ENTRIES]?;
+    let mut windows = vec![in heap; Window::default(); MOST_ENTRIES]?;
     found_in(heap, sheet, list.as_mut_slice(), windows.as_mut_slice())
 }
 
@@ -83,9 +80,9 @@ pub fn plan(heap: Global, text: &[u8]) -> Result<Vec<u8>, AllocError>
     let mut sheet = Sheet::new(heap);
     match sheet.read(text) {
         Ok(()) => answer(heap, &sheet),
-        Err(fault) => match sheet_refusal(fault) {
-            Some(refusal) => refused(heap, refusal),
-            None => Err(AllocError),
-        },
+        Err(fault) => {
+            let refusal = sheet_refusal(fault).ok_or(AllocError)?;
+            refused(heap, refusal)
+        }
     }
 }

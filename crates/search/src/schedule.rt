@@ -8,13 +8,10 @@ ghost use Rattle.search.specs.Schedules.{GoesAt};
 
 use crate::drawing::{draw, end_of_last, start_of_first, stretch};
 use crate::window::Window;
-use gates::entry::Entry;
+use gates::entry::{Entry, MOST_ENTRIES};
 use std::marker::Model;
 use table::full::Full;
 use table::table::put;
-
-// The most entries that a list may have.
-pub(crate) const MOST_ENTRIES: usize = 1024;
 
 // The windows at the front of the memory, how many entries the list drawn from them has, and how long the cycle is.
 // Clauses see the windows and the cycle.

@@ -5,12 +5,12 @@ ghost use Rattle.search.specs.Packets.{cycle_packets};
 ghost use Rattle.search.specs.Memory.{Planned, Searched};
 
 use crate::fault::SearchFault;
-use crate::schedule::{MOST_ENTRIES, Schedule};
+use crate::schedule::Schedule;
 use crate::serving::ServingOrder;
 use crate::trials::admit;
 use crate::walk::walk;
 use crate::window::Window;
-use gates::entry::Entry;
+use gates::entry::{Entry, MOST_ENTRIES};
 use sheet::sheet::Sheet;
 
 // Walk, trials and drawing.
@@ -41,7 +41,7 @@ pub fn search<O: ServingOrder>(
 ) -> Result<usize, SearchFault>
     ensures { Searched (O.before order.now) sheet.now list.old windows.old result list.new windows.new }
 {
-    if sheet.flows().len() == 0 {
+    if sheet.flows().is_empty() {
         return Err(SearchFault::EmptySheet);
     }
     if list.len() < MOST_ENTRIES || windows.len() < MOST_ENTRIES {

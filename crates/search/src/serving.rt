@@ -9,7 +9,8 @@ ghost use Rattle.traffic.proofs.Total.{queue_order};
 use traffic::orders::queue_before;
 use traffic::packet::Job;
 
-// An order between packets: of two that differ in flow or arrival exactly one is before the other.
+// An order between packets: of two that differ in flow or arrival exactly one is before the other. The two below compare a number
+// and then by queue order, which is no number, so that no tuple compares them.
 pub trait ServingOrder {
     // `before o x y`: under the order o, x is served before y
     ghost before: { Self → Job → Job → Bool };

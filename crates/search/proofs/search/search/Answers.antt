@@ -13,7 +13,7 @@ returns g c =
     let mid = c.planned-found.new.list in
     let n = c.unwrap_or-drawn.result in
     let flows = ap length c.flows.ensures in
-    let is = found_planned b s (length old) (length ws) (λ z. c.if-flows-eq0.false (flows ∙ z)) c.if-list-lt-MOST_ENTRIES.false c.if-windows-lt-MOST_ENTRIES.false in
+    let is = found_planned b s (length old) (length ws) (λ z. let e : length c.flows.result.now ≡ 0 = flows ∙ z in search rules) c.if-list-lt-MOST_ENTRIES.false c.if-windows-lt-MOST_ENTRIES.false in
     let zero = zero_window c.default.result c.default.ensures.0 c.default.ensures.1 in
     let windows : c.fill-2.new.self ≡ replicate (length ws) no_window = c.fill-2.ensures.after (λ y k. search rules) ∙ ap (λ k. replicate k c.default.result) c.planned-found.auto.windows ∙ ap (replicate (length ws)) zero in
     let list = cleared n mid c.fill.new.self (c.fill.ensures.after (λ y k. search rules)) ∙ ap (λ k. zero_from k mid) c.unwrap_or-drawn.ensures in
