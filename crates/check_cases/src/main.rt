@@ -7,10 +7,10 @@ use list_check::acceptance::check;
 use refusal::{Refusal, refusal_text};
 use sheet::refusals::sheet_refusal;
 use sheet::sheet::Sheet;
-use std::alloc::{AllocError, Global};
+use std::alloc::Global;
 use std::fs;
 
-// An entry by its line: gates, length, flow and number.
+// An entry by its line: gates, length, flow and number. No `FromStr`: that impl could only stand in the crate of `Entry`.
 fn entry_of(line: &str) -> anyhow::Result<Entry> {
     let mut parts = line.split(' ');
     let gates = parts.next().context("no gates")?.parse::<u8>()?;
@@ -27,35 +27,19 @@ fn entry_of(line: &str) -> anyhow::Result<Entry> {
 
 // The entries of a list's text.
 fn list_of(heap: Global, text: &str) -> anyhow::Result<Vec<Entry>> {
-    let mut list = Vec::new(heap);
-    for line in text.lines() {
-        list.push(entry_of(line)?)?;
-    }
-    Ok(list)
+    text.lines().map(entry_of).try_collect(heap)
 }
 
-// Why the list is refused for the sheet, if it is.
-fn refused<'x>(sheet: &'x Sheet, list: &'x [Entry]) -> Option<Refusal> {
-    check(sheet, list).err().map(Refusal::from)
-}
-
-// Why the text or the list is refused, if one is; an error where memory is short.
-fn verdict(heap: Global, text: &[u8], list: &[Entry]) -> Result<Option<Refusal>, AllocError> {
+// What is told of a sheet's text and a list; an error where memory is short.
+fn told(heap: Global, text: &[u8], list: &[Entry]) -> anyhow::Result<String> {
     let mut sheet = Sheet::new(heap);
-    match sheet.read(text) {
-        Ok(()) => Ok(refused(&sheet, list)),
-        Err(fault) => match sheet_refusal(fault) {
-            Some(refusal) => Ok(Some(refusal)),
-            None => Err(AllocError),
-        },
+    if let Err(fault) = sheet.read(text) {
+        let refusal = sheet_refusal(fault).context("memory is short")?;
+        return Ok(refusal_text(heap, refusal)?);
     }
-}
-
-// What is told of a sheet's text and a list.
-fn told(heap: Global, text: &[u8], list: &[Entry]) -> Result<String, AllocError> {
-    match verdict(heap, text, list)? {
-        None => String::from_str(heap, "accepted\n"),
-        Some(refusal) => refusal_text(heap, refusal),
+    match check(&sheet, list) {
+        Ok(_) => Ok(String::from_str(heap, "accepted\n")?),
+        Err(fault) => Ok(refusal_text(heap, Refusal::from(fault))?),
     }
 }
 
@@ -70,23 +54,6 @@ fn agrees(rt: &HostRuntime, name: &str) -> anyhow::Result<bool> {
     Ok(answer.as_str() == expected.as_str())
 }
 
-// Compares all cases that `names` lists, one a line, and prints those that differ and the counts.
-fn run(rt: &HostRuntime) -> anyhow::Result<()> {
-    let names = fs::read_to_string(rt, "names")?;
-    let mut agreed: u32 = 0;
-    let mut differ: u32 = 0;
-    for name in names.lines() {
-        if agrees(rt, name)? {
-            agreed = agreed.saturating_add(1);
-        } else {
-            differ = differ.saturating_add(1);
-            println!(rt; "{name} differs")?;
-        }
-    }
-    println!(rt; "{agreed} agree, {differ} differ")?;
-    Ok(())
-}
-
 fn main(rt: HostRuntime) -> anyhow::Result<()> {
-    run(&rt)
+    cases::compare(&rt, |name| agrees(&rt, name))
 }

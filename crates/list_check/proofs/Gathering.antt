@@ -4,6 +4,7 @@ use native.Mathlib.Nat.{eq_of_mul-eq-mul_right}
 use Rattle.std.specs.List.{AllByRecursion}
 use Rattle.std.proofs.ByRecursion.{All-weaker}
 use Rattle.std.proofs.lemmas.List.{drop_more, take-append-drop}
+use Rattle.std.proofs.lemmas.List.Folds.{list_any-append}
 use Rattle.std.proofs.lemmas.Bool.{and_parts, and_from, cases_Bool, cases_eq, both_ways, and_left, ne_eqb, or_cases, or_left, or_right, not-true, not-false, eqb-true, eq-eqb, le-leb, leb-true, false≢true}
 use Rattle.traffic.specs.declared.packet.Packet.{Packet}
 use Rattle.traffic.specs.declared.packet.Job.{Job}
@@ -26,16 +27,11 @@ use Rattle.list_check.proofs.Starting.{number_there}
 
 -- what one more entry names
 names_more : (front : List Entry) (e : Entry) (i n : ℕ) → names (front ++ (e ∷ [])) i n ≡ (names front i n || (eqb e.flow i && eqb e.number n))
-names_more [] e i n = or_none (eqb e.flow i && eqb e.number n)
+names_more front e i n = list_any-append (λ x. eqb x.flow i && eqb x.number n) front (e ∷ []) ∙ ap (λ (b : Bool). names front i n || b) (or_none (eqb e.flow i && eqb e.number n))
   where
     or_none : (b : Bool) → (b || false) ≡ b
     or_none true = refl
     or_none false = refl
-names_more (x ∷ front) e i n = ap (λ (b : Bool). (eqb x.flow i && eqb x.number n) || b) (names_more front e i n) ∙ or_assoc (eqb x.flow i && eqb x.number n) (names front i n) (eqb e.flow i && eqb e.number n)
-  where
-    or_assoc : (a b c : Bool) → (a || (b || c)) ≡ ((a || b) || c)
-    or_assoc true b c = refl
-    or_assoc false b c = refl
 
 names-there : (front : List Entry) (e : Entry) (back : List Entry) → names (front ++ (e ∷ back)) e.flow e.number ≡ true
 names-there [] e back = or_left _ _ (and_from _ _ (eq-eqb e.flow e.flow refl) (eq-eqb e.number e.number refl))

@@ -1,25 +1,13 @@
 -- What entries name, and the first rule that they break.
-use Rattle.std.proofs.Common.{◌≡◌, ℕ, zero, suc, ◌+◌, ◌-◌, ◌<◌, ◌≤◌, true, false, not, eqb, List, [], ◌∷◌, ◌++◌, length, get_or, set, refl, ap, ◌∙◌, ⊎_elim, arith, get_or-set_other, get_or-set_same}
-use Rattle.std.specs.List.{AllByRecursion, fold, sum_by}
+use Rattle.std.proofs.Common.{◌≡◌, ℕ, ◌+◌, ◌<◌, ◌≤◌, true, false, eqb, List, [], ◌∷◌, ◌++◌, length, get_or, set, refl, ap, ◌∙◌, ⊎_elim, arith, get_or-set_other, get_or-set_same}
+use Rattle.std.specs.List.{AllByRecursion, sum_by}
 use Rattle.std.proofs.ByRecursion.{All-append, All-weaker}
+use Rattle.std.proofs.lemmas.List.Sums.{sum_by-cons}
 use Rattle.std.proofs.lemmas.Bool.{and_left, and_right, cases_Bool, cases_eq, eqb-true, ne_eqb, le-leb, leb-true, and_parts, and_from, or_from}
-use Rattle.traffic.specs.declared.flow.Flow.{Flow}
-use Rattle.traffic.specs.Packets.{Traffic, no_flow, flow_at}
-use Rattle.traffic.specs.Pattern.{mandatory_at}
-use Rattle.cycle.specs.Cycle.{packets_in}
 use Rattle.gates.specs.declared.entry.Entry.{Entry}
-use Rattle.sending.specs.Sheet.{cycle, flow}
-use Rattle.sending.specs.Rules.{total, optional_there}
+use Rattle.sending.specs.Rules.{total}
 use Rattle.gates.specs.Entries.{names}
 use Rattle.list_check.specs.Named.{known}
-
-pub flow_at_getD : (fs : List Flow) (i : ℕ) → 0 < i → flow_at fs i ≡ get_or fs (i - 1) no_flow
-flow_at_getD fs zero h = absurd (omega arith)
-flow_at_getD fs (suc i) h = let is : i ≡ suc i - 1 = omega arith in ap (λ (k : ℕ). get_or fs k no_flow) is
-
--- a number of the cycle is an optional packet where it is not a mandatory one
-pub optional_is : (s : Traffic) (i n : ℕ) → 1 ≤ i → i ≤ length s.flows → 1 ≤ n → n ≤ packets_in (cycle s) (flow s i) → optional_there s i n ≡ not (mandatory_at (flow s i) n)
-optional_is s i n a b c d = rw (le-leb 1 i a, le-leb i (length s.flows) b, le-leb 1 n c, le-leb n (packets_in (cycle s) (flow s i)) d)
 
 -- the same, entry by entry
 Known : List ℕ → List Entry → Type 0
@@ -73,9 +61,6 @@ pub known_more : (latest : List ℕ) (front : List Entry) (e : Entry) (v : ℕ) 
 known_more latest front e v within here above k = known_all _ _ (known_then latest front e v within here above (known_each latest front k))
 
 -- what is summed up is the time that entries take
-total_from : (n : ℕ) (es : List Entry) → fold (λ a e. a + e.interval) n es ≡ n + total es
-total_from n [] = omega arith
-total_from n (e ∷ es) = total_from (n + e.interval) es ∙ omega arith
-
 pub total_sum : (es : List Entry) → sum_by (λ e. e.interval) es ≡ total es
-total_sum es = total_from 0 es ∙ omega arith
+total_sum [] = refl
+total_sum (e ∷ es) = sum_by-cons (λ x. x.interval) e es ∙ ap (λ (n : ℕ). e.interval + n) (total_sum es)

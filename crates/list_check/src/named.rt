@@ -4,14 +4,14 @@ ghost use Rattle.sheet.specs.Contents.{traffic_of};
 ghost use Rattle.list_check.specs.Queued.{NamedJoins, Queued};
 
 use crate::rules::Lawful;
-use gates::entry::Entry;
+use gates::entry::{Entry, MOST_ENTRIES};
 use sheet::sheet::Sheet;
 use table::owned::Table;
 use traffic::packet::Job;
 
 // The packet that an entry names joins, if it names one.
-fn join(named: &mut Table<Job, 1024>, sheet: &Sheet, entry: &Entry)
-    requires { length named.old < 1024 }
+fn join(named: &mut Table<Job, MOST_ENTRIES>, sheet: &Sheet, entry: &Entry)
+    requires { length named.old < MOST_ENTRIES }
     ensures { NamedJoins (traffic_of sheet.now) entry.now named.old named.new }
 {
     if let Some(job) = sheet.job(entry.flow, entry.number as u64) {
@@ -20,7 +20,7 @@ fn join(named: &mut Table<Job, 1024>, sheet: &Sheet, entry: &Entry)
 }
 
 // All packets that the list names.
-pub(crate) fn named(lawful: Lawful) -> Table<Job, 1024>
+pub(crate) fn named(lawful: Lawful) -> Table<Job, MOST_ENTRIES>
     ensures { Queued (traffic_of lawful.entry.sheet.now) lawful.entry.list.now 0 result }
 {
     let mut named = Table::new();

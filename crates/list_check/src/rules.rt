@@ -12,7 +12,7 @@ use sheet::sheet::Sheet;
 
 // The rule that an entry breaks first, entry by entry.
 fn check_entries(sheet: &Sheet, list: &[Entry]) -> Result<(), CheckFault>
-    requires { length list.now ≤ 1024 }
+    requires { length list.now ≤ MOST_ENTRIES }
     ensures { result ≡ outcome_of (entries_broken (traffic_of sheet.now) [] list.now) }
 {
     let mut latest = [0; 256];
@@ -25,7 +25,7 @@ fn check_entries(sheet: &Sheet, list: &[Entry]) -> Result<(), CheckFault>
 
 // The time that a list takes.
 fn total(list: &[Entry]) -> u64
-    requires { length list.now ≤ 1024 }
+    requires { length list.now ≤ MOST_ENTRIES }
     ensures { result ≡ total list.now }
 {
     list.iter().map(|entry| entry.interval as u64).sum()

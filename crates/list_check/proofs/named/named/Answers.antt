@@ -1,27 +1,13 @@
 -- Entry by entry.
-use Rattle.std.proofs.Common.{◌+◌, ◌≤◌, leb, List, [], length, get_or, take, drop, sym, subst, arith}
+use Rattle.std.proofs.Common.{◌+◌, List, get_or, take, drop, sym, subst, arith}
 use Rattle.std.proofs.lemmas.List.{take_more, take_all}
-use Rattle.std.proofs.lemmas.Bool.{and_parts, leb-true}
 use Rattle.gates.specs.declared.entry.Entry.{Entry}
 use Rattle.gates.specs.Entries.{no_entry}
 use Rattle.sheet.specs.Contents.{traffic_of}
 use Rattle.sending.proofs.Fitting.{read_sheets_fit}
-use Rattle.list_check.proofs.Gathering.{Gathered, gathered_none, gathered_joins, gathered_all, joins_few, entry_at}
+use Rattle.list_check.proofs.Gathering.{Gathered, gathered_joins, gathered_all, joins_few, entry_at}
 use Rattle.list_check.proofs.Looking.{lawful_rules}
 use Rattle.list_check.proofs.named.named.Goals as goal
-
-pub loop-entry-init : goal.loop-entry-init
-loop-entry-init c =
-    let s = traffic_of c.args.lawful.sheet.now in
-    let es = c.args.lawful.list.now in
-    (subst (Gathered s es []) (sym c.new-named.ensures) (gathered_none s es), rw c.new-named.ensures (omega arith))
-
-pub join-requires : goal.join-requires
-join-requires c =
-    let es = c.args.lawful.list.now in
-    let few : length es ≤ 1024 = leb-true (length es) 1024 (and_parts (leb 1 (length es)) (leb (length es) 1024) (lawful_rules c.args.lawful).size).1 in
-    let low = c.loop-entry.invariant.1 in
-    omega arith
 
 pub loop-entry-preserved : goal.loop-entry-preserved
 loop-entry-preserved c =

@@ -18,14 +18,6 @@ returns-then-free-x c es ok at =
     let due = c.requires.due in
     inr (c.in_ok-start.start, (subst (λ (n : ℕ). FirstFit es x.queue n x.wire c.in_ok-start.start) c.max-from.ensures fit, omega arith))
 
-pub invariant_of-result : goal.invariant_of-result
-invariant_of-result c =
-    let onward = c.moved_to-cursor.ensures.onward in
-    let later = c.in_ok-start.ensures.later in
-    let free = c.saturating_add-free.ensures in
-    let due = c.requires.due in
-    record { onward = omega arith; early = omega arith }
-
 pub returns : goal.returns
 returns c es ok at =
     let x = c.args.x.now in
