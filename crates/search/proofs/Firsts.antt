@@ -92,10 +92,10 @@ next_at : (b : Job → Job → Bool) (t l : ℕ) (xs : List Job) → least xs �
 next_at b t l [] e = let z : ◌≡◌ {A = ℕ} 0 1 = cc in absurd (omega arith)
 next_at b t l (x ∷ xs) e = let is : least_arrival x xs ≡ l = cc in ap (λ (k : ℕ). window_at (max t k) (first_of b (arrived (max t k) (x ∷ xs)))) is
 
-pub next_heads : (b : Job → Job → Bool) (t l : ℕ) (qs : List (List Job)) → length qs ≡ 7 → Some l ≡ reduce min (map (λ p. p.arrival) (heads qs)) →
-    next b t (firsts (left_in qs) 7) ≡ window_at (max t l) (reduce (served_first b) (arrived (max t l) (heads qs)))
-next_heads b t l qs seven e =
+pub next_is : (b : Job → Job → Bool) (t l u : ℕ) (qs : List (List Job)) (o : Option Job) → length qs ≡ 7 → Some l ≡ reduce min (map (λ p. p.arrival) (heads qs)) → u ≡ max t l →
+    o ≡ reduce (served_first b) (arrived u (heads qs)) → next b t (firsts (left_in qs) 7) ≡ window_at u o
+next_is b t l u qs o seven e at is =
     let all : take 7 qs ≡ qs = take_all 7 qs (omega arith) in
-    let u : ℕ = max t l in
     next_at b t l (firsts (left_in qs) 7) (least_heads qs 7 (omega arith) ∙ ap (λ (rs : List (List Job)). reduce min (map (λ p. p.arrival) (heads rs))) all ∙ sym e)
-    ∙ ap (window_at u) (served_heads b u qs 7 (omega arith) ∙ ap (λ (rs : List (List Job)). reduce (served_first b) (arrived u (heads rs))) all)
+    ∙ ap (λ (k : ℕ). window_at k (first_of b (arrived k (firsts (left_in qs) 7)))) (sym at)
+    ∙ ap (window_at u) (served_heads b u qs 7 (omega arith) ∙ ap (λ (rs : List (List Job)). reduce (served_first b) (arrived u (heads rs))) all ∙ sym is)

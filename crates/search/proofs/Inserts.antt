@@ -1,5 +1,5 @@
 -- A window among others that stand one after the other. Assumes nothing.
-use Rattle.std.proofs.Common.{◌≡◌, ℕ, zero, suc, ◌+◌, ◌<◌, ◌≤◌, true, false, not, ltb, List, [], ◌∷◌, ◌++◌, length, take, drop, Ok, Err, sym, refl, ap, ◌∙◌, subst, ⊎_elim, arith}
+use Rattle.std.proofs.Common.{◌≡◌, ℕ, zero, suc, ◌+◌, ◌<◌, ◌≤◌, true, false, not, ltb, List, [], ◌∷◌, ◌++◌, length, take, drop, Ok, Err, Result, ◌⊎◌, sym, refl, inl, inr, ap, ◌∙◌, subst, ⊎_elim, arith}
 use Rattle.std.specs.List.{AllByRecursion}
 use Rattle.std.proofs.ByRecursion.{All-append, All-take, All-drop}
 use Rattle.std.proofs.lemmas.List.{length-take-le, length-append, length-drop}
@@ -11,6 +11,7 @@ use Rattle.table.proofs.Places.{placed_last-is}
 use Rattle.search.specs.declared.window.Window.{Window}
 use Rattle.search.specs.Windows.{Fits, Apart, end, last_end, first_start, latest, starts_before}
 use Rattle.search.specs.Drawn.{drawn, entry, inserted_at}
+use Rattle.search.specs.declared.fault.SearchFault.{SearchFault}
 use Rattle.search.specs.declared.fault.SearchFault.TheVariants.{Late, TooLong}
 use Rattle.search.specs.Search.{most_entries, inserted, placed_next}
 use Rattle.search.specs.Schedules.{Tallied, GoesAt}
@@ -123,25 +124,32 @@ inserted_tally long i e more n entries ms ns w ok goes count few same put =
       },
     )
 
--- the outcomes of one window more
-pub placed_late : (long : ℕ) (ws : List Window) (w : Window) → w.packet.deadline < end w → placed_next long ws w ≡ Err (Late w.packet.flow w.packet.number)
-placed_late long ws w late = rw (lt-ltb w.packet.deadline (end w) late)
-
-pub placed_long : (long : ℕ) (ws : List Window) (w : Window) → end w ≤ w.packet.deadline → most_entries < length (drawn 0 (ws ++ (w ∷ [])) long) → placed_next long ws w ≡ Err (TooLong w.packet.flow w.packet.number)
-placed_long long ws w h long-list = rw (le-ltb w.packet.deadline (end w) h, lt-ltb most_entries (length (drawn 0 (ws ++ (w ∷ [])) long)) long-list)
-
-pub placed_ok : (long : ℕ) (ws : List Window) (w : Window) → end w ≤ w.packet.deadline → length (drawn 0 (ws ++ (w ∷ [])) long) ≤ most_entries → placed_next long ws w ≡ Ok (ws ++ (w ∷ []))
-placed_ok long ws w h few = rw (le-ltb w.packet.deadline (end w) h, le-ltb most_entries (length (drawn 0 (ws ++ (w ∷ [])) long)) few)
-
--- and what is placed stands at the end, in time
-pub placed-is : (long : ℕ) (ws zs : List Window) (w : Window) → placed_next long ws w ≡ Ok zs → (zs ≡ ws ++ (w ∷ [])) × (end w ≤ w.packet.deadline)
-placed-is long ws zs w e =
+-- a window that is placed stands at the end, in time, and the list stays within its limit
+pub placed-is : (long : ℕ) (ws vs : List Window) (w : Window) → placed_next long ws w ≡ Ok vs → (vs ≡ ws ++ (w ∷ [])) × (end w ≤ w.packet.deadline) × (length (drawn 0 (ws ++ (w ∷ [])) long) ≤ most_entries)
+placed-is long ws vs w e =
     ⊎_elim
-    (λ late. let h : Err (Late w.packet.flow w.packet.number) ≡ Ok zs = sym (placed_late long ws w (ltb-true w.packet.deadline (end w) late)) ∙ e in let z : ◌≡◌ {A = ℕ} 0 1 = cc in absurd (omega arith))
-    (λ early.
-    let to = ltb-false w.packet.deadline (end w) early in
+    (λ (on : ltb w.packet.deadline (end w) ≡ true). let x : ◌≡◌ {A = Result (List Window) SearchFault} (Err (Late w.packet.flow w.packet.number)) (Ok vs) = rw on at e in let z : ◌≡◌ {A = ℕ} 0 1 = cc in absurd (omega arith))
+    (λ (off : ltb w.packet.deadline (end w) ≡ false).
+    let e2 = rw off at e in
     ⊎_elim
-    (λ big. let h : Err (TooLong w.packet.flow w.packet.number) ≡ Ok zs = sym (placed_long long ws w to (ltb-true most_entries (length (drawn 0 (ws ++ (w ∷ [])) long)) big)) ∙ e in let z : ◌≡◌ {A = ℕ} 0 1 = cc in absurd (omega arith))
-    (λ few. let h : Ok (ws ++ (w ∷ [])) ≡ Ok zs = sym (placed_ok long ws w to (ltb-false most_entries (length (drawn 0 (ws ++ (w ∷ [])) long)) few)) ∙ e in (cc, to))
+    (λ (on : ltb most_entries (length (drawn 0 (ws ++ (w ∷ [])) long)) ≡ true). let x : ◌≡◌ {A = Result (List Window) SearchFault} (Err (TooLong w.packet.flow w.packet.number)) (Ok vs) = rw on at e2 in let z : ◌≡◌ {A = ℕ} 0 1 = cc in absurd (omega arith))
+    (λ (no_more : ltb most_entries (length (drawn 0 (ws ++ (w ∷ [])) long)) ≡ false).
+    let x : ◌≡◌ {A = Result (List Window) SearchFault} (Ok (ws ++ (w ∷ []))) (Ok vs) = rw no_more at e2 in
+    let same : ws ++ (w ∷ []) ≡ vs = cc in
+    (sym same, ltb-false _ _ off, ltb-false most_entries (length (drawn 0 (ws ++ (w ∷ [])) long)) no_more))
+    (cases_Bool (ltb most_entries (length (drawn 0 (ws ++ (w ∷ [])) long)))))
+    (cases_Bool (ltb w.packet.deadline (end w)))
+
+-- why one is not placed
+pub placed-err : (long : ℕ) (ws : List Window) (w : Window) (d : SearchFault) → placed_next long ws w ≡ Err d →
+    ((d ≡ Late w.packet.flow w.packet.number) × (w.packet.deadline < end w)) ⊎ ((d ≡ TooLong w.packet.flow w.packet.number) × (most_entries < length (drawn 0 (ws ++ (w ∷ [])) long)))
+placed-err long ws w d e =
+    ⊎_elim
+    (λ (on : ltb w.packet.deadline (end w) ≡ true). let x : ◌≡◌ {A = Result (List Window) SearchFault} (Err (Late w.packet.flow w.packet.number)) (Err d) = rw on at e in let same : d ≡ Late w.packet.flow w.packet.number = cc in inl (same, ltb-true _ _ on))
+    (λ (off : ltb w.packet.deadline (end w) ≡ false).
+    let e2 = rw off at e in
+    ⊎_elim
+    (λ (on : ltb most_entries (length (drawn 0 (ws ++ (w ∷ [])) long)) ≡ true). let x : ◌≡◌ {A = Result (List Window) SearchFault} (Err (TooLong w.packet.flow w.packet.number)) (Err d) = rw on at e2 in let same : d ≡ TooLong w.packet.flow w.packet.number = cc in inr (same, ltb-true most_entries (length (drawn 0 (ws ++ (w ∷ [])) long)) on))
+    (λ (no_more : ltb most_entries (length (drawn 0 (ws ++ (w ∷ [])) long)) ≡ false). let x : ◌≡◌ {A = Result (List Window) SearchFault} (Ok (ws ++ (w ∷ []))) (Err d) = rw no_more at e2 in let z : ◌≡◌ {A = ℕ} 0 1 = cc in absurd (omega arith))
     (cases_Bool (ltb most_entries (length (drawn 0 (ws ++ (w ∷ [])) long)))))
     (cases_Bool (ltb w.packet.deadline (end w)))

@@ -1,15 +1,14 @@
 -- The walk by what is left of the queues. Assumes nothing.
-use Rattle.std.proofs.Common.{◌≡◌, ℕ, zero, suc, ◌<◌, ◌≤◌, Bool, cond, ltb, List, [], ◌∷◌, ◌++◌, length, drop, Some, None, Ok, Err, Option, Result, sym, refl, ap, ◌∙◌, subst, ⊎_elim, arith}
-use Rattle.std.proofs.lemmas.Bool.{cases_Bool, cases_eq, eq-eqb, ne_eqb, ltb-true, ltb-false}
+use Rattle.std.proofs.Common.{◌≡◌, ℕ, zero, suc, ◌<◌, ◌≤◌, Bool, cond, List, [], ◌∷◌, length, drop, Some, None, Ok, Err, Option, Result, sym, refl, ap, ◌∙◌, subst, ⊎_elim, arith}
+use Rattle.std.proofs.lemmas.Bool.{cases_eq, eq-eqb, ne_eqb}
 use Rattle.traffic.specs.declared.packet.Job.{Job}
 use Rattle.search.specs.declared.window.Window.{Window}
 use Rattle.search.specs.declared.fault.SearchFault.{SearchFault}
-use Rattle.search.specs.declared.fault.SearchFault.TheVariants.{Late, TooLong}
 use Rattle.search.specs.Faults.{InWalk}
 use Rattle.search.specs.Windows.{end}
 use Rattle.search.specs.Drawn.{drawn}
-use Rattle.search.proofs.Inserts.{placed_late, placed_long, placed_ok}
-use Rattle.search.specs.Search.{most_entries, firsts, next, without, placed_next, and_then, turn, walked, walked_over, count, admitted, Cycle, planned_list}
+use Rattle.search.proofs.Inserts.{placed-err}
+use Rattle.search.specs.Search.{firsts, next, without, placed_next, and_then, turn, walked, walked_over, count, admitted, Cycle, planned_list}
 
 -- the walk hangs on the queues 1 to 7 alone
 abbrev pub Like : (ℕ → List Job) → (ℕ → List Job) → Type 0
@@ -92,20 +91,8 @@ module _ (b : Job → Job → Bool) (long : ℕ) where
       ap (λ (n : ℕ). walked b long n t f ws) (count-without f w.packet.queue 7 some most has) ∙ walked-turn (count (without w.packet.queue f) 7) t f ws w (Err x) e p
 
 -- why a walk stops
-err_same : (e x : SearchFault) (r : Result (List Window) SearchFault) → r ≡ Err x → r ≡ Err e → x ≡ e
-err_same e x r p q = cc
-
-pub placed_fault : (long : ℕ) (ws : List Window) (w : Window) (e : SearchFault) → placed_next long ws w ≡ Err e → InWalk e
-placed_fault long ws w e h =
-    ⊎_elim
-    (λ late. subst InWalk (err_same e (Late w.packet.flow w.packet.number) (placed_next long ws w) (placed_late long ws w (ltb-true w.packet.deadline (end w) late)) h) tt)
-    (λ early.
-    let to = ltb-false w.packet.deadline (end w) early in
-    ⊎_elim
-    (λ big. subst InWalk (err_same e (TooLong w.packet.flow w.packet.number) (placed_next long ws w) (placed_long long ws w to (ltb-true most_entries (length (drawn 0 (ws ++ (w ∷ [])) long)) big)) h) tt)
-    (λ few. let z : Ok (ws ++ (w ∷ [])) ≡ Err e = sym (placed_ok long ws w to (ltb-false most_entries (length (drawn 0 (ws ++ (w ∷ [])) long)) few)) ∙ h in let bad : ◌≡◌ {A = ℕ} 0 1 = cc in absurd (omega arith))
-    (cases_Bool (ltb most_entries (length (drawn 0 (ws ++ (w ∷ [])) long)))))
-    (cases_Bool (ltb w.packet.deadline (end w)))
+placed_fault : (long : ℕ) (ws : List Window) (w : Window) (e : SearchFault) → placed_next long ws w ≡ Err e → InWalk e
+placed_fault long ws w e h = ⊎_elim (λ p. subst InWalk (sym p.0) tt) (λ p. subst InWalk (sym p.0) tt) (placed-err long ws w e h)
 
 then_fault : (long : ℕ) (ws : List Window) (w : Window) (e : SearchFault) (k : List Window → Result (List Window) SearchFault) → ((zs : List Window) → k zs ≡ Err e → InWalk e) →
     (r : Result (List Window) SearchFault) → placed_next long ws w ≡ r → and_then r k ≡ Err e → InWalk e

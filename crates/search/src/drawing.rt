@@ -29,7 +29,7 @@ pub(crate) fn start_of_first(windows: &[Window], cycle: u64) -> u64
 pub(crate) fn stretch(a: u64, b: u64) -> usize
     ensures { result ≡ (if nat_lt a b then 1 else 0) }
 {
-    if a < b { 1 } else { 0 }
+    usize::from(a < b)
 }
 
 // The entry of a window: an optional packet is named.

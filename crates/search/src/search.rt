@@ -1,6 +1,6 @@
 // The search.
 ghost use Rattle.std.specs.Prelude.{◌≡◌, ℕ, ◌<◌, ◌≤◌, length, replicate, Err, MatchResult};
-ghost use Rattle.search.specs.Search.{planned_list};
+ghost use Rattle.search.specs.Search.{most_entries, planned_list};
 ghost use Rattle.search.specs.Packets.{cycle_packets};
 ghost use Rattle.search.specs.Memory.{Planned, Searched};
 
@@ -20,7 +20,7 @@ fn planned<O: ServingOrder>(
     list: &mut [Entry],
     windows: &mut [Window],
 ) -> Result<usize, SearchFault>
-    requires memory { (1024 ≤ length list.old) × (1024 ≤ length windows.old) }
+    requires memory { (most_entries ≤ length list.old) × (most_entries ≤ length windows.old) }
     ensures { MatchResult result
         (λ n. Planned (planned_list (O.before order.now) (cycle_packets sheet.now)) n list.old list.new)
         (λ e. planned_list (O.before order.now) (cycle_packets sheet.now) ≡ Err e) }

@@ -45,10 +45,7 @@ impl ServingOrder for DeadlineMonotonic {
     fn is_before(&self, x: &Job, y: &Job) -> bool {
         let a = x.deadline.saturating_sub(x.arrival);
         let b = y.deadline.saturating_sub(y.arrival);
-        if a != b {
-            return a < b;
-        }
-        queue_before(x, y)
+        a < b || (a == b && queue_before(x, y))
     }
 }
 
@@ -66,9 +63,6 @@ impl ServingOrder for EarliestDeadline {
     ghost decides = { λ o x y d. then_decides x.deadline y.deadline (queue_before x y) (queue_before y x) (λ _. queue_order.decides x y d) };
 
     fn is_before(&self, x: &Job, y: &Job) -> bool {
-        if x.deadline != y.deadline {
-            return x.deadline < y.deadline;
-        }
-        queue_before(x, y)
+        x.deadline < y.deadline || (x.deadline == y.deadline && queue_before(x, y))
     }
 }

@@ -11,7 +11,8 @@ use Rattle.search.specs.Search.{Cycle, most_entries, firsts, next, without, plac
 use Rattle.search.specs.declared.fault.SearchFault.{SearchFault}
 use Rattle.search.specs.declared.fault.SearchFault.TheVariants.{EmptySheet, LittleMemory, Late, TooLong}
 use Rattle.search_laws.specs.Laws.{In, Given, WalkLaw, LateRightly, TooLongRightly}
-use Rattle.search_laws.proofs.Steps.{stopped, placed_ok, placed_err}
+use Rattle.search_laws.proofs.Steps.{stopped}
+use Rattle.search.proofs.Inserts.{placed-is, placed-err}
 use Rattle.search_laws.proofs.Next.{never_idle, next_once}
 use Rattle.search_laws.proofs.Turns.{Turns, Homed, homed_without, firsts_differ}
 use Rattle.search_laws.proofs.Law.{all_home, from_law, law_turns}
@@ -79,9 +80,9 @@ stops before home long laws (suc n) t left ws xs e h x o d = go (next before t (
         (λ (l : (e ≡ TooLong w.packet.flow w.packet.number) × (most_entries < length (drawn 0 (ws ++ (w ∷ [])) long))).
         let here : Stops long ws (w ∷ vs) (TooLong w.packet.flow w.packet.number) = (w ∷ [], vs, refl, l.1) in
         subst (Stops long ws (w ∷ vs)) (sym l.0) here)
-        (placed_err long ws w e no_place))
+        (placed-err long ws w e no_place))
         (λ (k : Goes_on).
-        let p = placed_ok long ws k.0 w k.1 in
+        let p = placed-is long ws k.0 w k.1 in
         let R : List Window → Type 0 = λ l. Stops long l vs e in
         stops_more long ws w vs e (subst R p.0 (ih (end w) (without w.packet.queue left) k.0 vs e (homed_without home left w.packet.queue h) (subst P same x.1) o.1 k.2)))
         (stopped (placed_next long ws w) (walked before long n (end w) (without w.packet.queue left)) e c))

@@ -11,7 +11,8 @@ use Rattle.search.specs.Windows.{end, Apart}
 use Rattle.search.specs.Search.{firsts, next, without, placed_next, and_then, turn, walked, count}
 use Rattle.search_laws.specs.Laws.{In, Differing, Next}
 use Rattle.search_laws.proofs.Lists.{all_in, apart_after}
-use Rattle.search_laws.proofs.Steps.{went_on, placed_ok}
+use Rattle.search_laws.proofs.Steps.{went_on}
+use Rattle.search.proofs.Inserts.{placed-is}
 use Rattle.search_laws.proofs.Next.{next_none, never_idle, next_once}
 use Rattle.search_laws.proofs.Walk.{first_from, count_none, count_less}
 
@@ -93,7 +94,7 @@ walk_turns before home long laws (suc n) t left ws vs h k e = go (next before t 
     go None f d ih = let same : ws ≡ vs = cc in ([], sym same ∙ sym (append-nil ws), next_none before t (firsts left 7) f)
     go (Some w) f d ih =
         let on = went_on (placed_next long ws w) (walked before long n (end w) (without w.packet.queue left)) vs d in
-        let p = placed_ok long ws on.0 w on.1 in
+        let p = placed-is long ws on.0 w on.1 in
         let m = never_idle before t (firsts left 7) w laws (firsts_differ home left 7 h) f in
         let b = next_home before home left w.packet h m.among in
         let fewer = count_less left w.packet.queue 7 w.packet b.3.0 b.0 b.1 b.3.1 in

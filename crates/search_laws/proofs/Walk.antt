@@ -11,7 +11,8 @@ use Rattle.search.specs.Drawn.{drawn}
 use Rattle.search.specs.Search.{Cycle, most_entries, firsts, next, without, placed_next, and_then, turn, walked, count}
 use Rattle.search_laws.specs.Laws.{In, WaitsIn, Given}
 use Rattle.search_laws.proofs.Lists.{all_right, kept_append, packets-append, apart_append, apart_to}
-use Rattle.search_laws.proofs.Steps.{went_on, placed_ok}
+use Rattle.search_laws.proofs.Steps.{went_on}
+use Rattle.search.proofs.Inserts.{placed-is}
 use Rattle.search_laws.proofs.Next.{next_none, next_some}
 
 -- a window that a search may set
@@ -165,7 +166,7 @@ module _ (before : Job → Job → Bool) (c : Cycle) (given : Given c) where
       go None f d ih = absurd (nothing_left n t left ws g (next_none before t (firsts left 7) f))
       go (Some w) f d ih =
           let on = went_on (placed_next c.long ws w) (walked before c.long n (end w) (without w.packet.queue left)) vs d in
-          let p = placed_ok c.long ws on.0 w on.1 in
+          let p = placed-is c.long ws on.0 w on.1 in
           ih (end w) (without w.packet.queue left) on.0 vs (subst (Walking c n (end w) (without w.packet.queue left)) (sym p.0) (placing n t left ws w g f p.1 p.2)) on.2
 
   pub walk_from : (ws : List Window) → walked before c.long (count c.mandatory 7) 0 c.mandatory [] ≡ Ok ws → Walked c ws
