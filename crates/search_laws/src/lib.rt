@@ -27,57 +27,41 @@ pub fn lawful_search<O: ServingOrder>(
 }
 
 // The windows are disjoint and in time, each mandatory packet has one, and each queue stands in its order.
-pub fn windows_fit() -> u8
+pub fn windows_fit()
     ensures { WindowsFit }
-{
-    0
-}
+{}
 
 // The drawn list keeps the rules of a list.
-pub fn rules_hold() -> u8
+pub fn rules_hold()
     ensures { RulesHold }
-{
-    0
-}
+{}
 
 // A trial starts at the least instant at which it overlaps no window.
-pub fn least_room() -> u8
+pub fn least_room()
     ensures { LeastRoom }
-{
-    0
-}
+{}
 
 // The wire is never idle while a mandatory packet waits.
-pub fn never_idle() -> u8
+pub fn never_idle()
     ensures { NeverIdle }
-{
-    0
-}
+{}
 
 // The windows obey the law of the walk and of the trials.
-pub fn plan_lawful() -> u8
+pub fn plan_lawful()
     ensures { PlanLawful }
-{
-    0
-}
+{}
 
 // That law leaves one list of windows.
-pub fn plan_once() -> u8
+pub fn plan_once()
     ensures { PlanOnce }
-{
-    0
-}
+{}
 
 // A search that finds a packet late is right.
-pub fn late_rightly() -> u8
+pub fn late_rightly()
     ensures { LateRightly }
-{
-    0
-}
+{}
 
 // A search that finds the list too long is right.
-pub fn too_long_rightly() -> u8
+pub fn too_long_rightly()
     ensures { TooLongRightly }
-{
-    0
-}
+{}
