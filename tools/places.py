@@ -43,7 +43,7 @@ for path in files:
     tests = text.find("mod tests {")
     at = lambda i: text[:i].count("\n") + 1
     for m in re.finditer(r"Refusal::(?:plain|at)\(\d+|\bcode: \d+,|=> \(\d+, |-> \(u8, u32(?:, u64)?\)|^\s+(?:pub )?\w+: bool,|-> Option<\w*Fault>", text, re.M):
-        if not (m.group(0).startswith("code:") and 0 <= tests < m.start()):
+        if not 0 <= tests < m.start():
             note("1", rel, at(m.start()), m.group(0).strip())
     for m in re.finditer(r"else \{\s*return None;\s*\}|None => None,|Err\((\w+)\) => Err\(\1\),", text):
         before = text[max(0, m.start() - 60):m.start()]

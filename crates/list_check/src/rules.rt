@@ -45,7 +45,7 @@ fn check_rules(sheet: &Sheet, list: &[Entry]) -> Result<(), CheckFault>
     Ok(())
 }
 
-// A list that keeps the rules for a sheet.
+// A list that keeps the rules for a sheet. An acceptance has these fields, too, and by a rule of the project no invariant.
 #[derive(Clone, Copy)]
 pub(crate) struct Lawful<'a> {
     pub sheet: &'a Sheet,

@@ -28,15 +28,18 @@ const fn named(number: u32) -> Entry {
     }
 }
 
-// The numbers of the refusal of a list, or zeros where it is accepted.
-fn told<'x>(sheet: &'x Sheet, list: &'x [Entry]) -> (u8, u32, u64) {
-    match check_list(sheet, list) {
-        Ok(_) => (0, 0, 0),
-        Err(fault) => {
-            let r = Refusal::from(fault);
-            (r.code, r.place, r.number)
-        }
-    }
+// This refusal.
+const fn refusal(code: u8, place: u32, number: u64) -> Option<Refusal> {
+    Some(Refusal {
+        code,
+        place,
+        number,
+    })
+}
+
+// The refusal of a list, if it is refused.
+fn told<'x>(sheet: &'x Sheet, list: &'x [Entry]) -> Option<Refusal> {
+    check_list(sheet, list).err().map(Refusal::from)
 }
 
 #[test]
@@ -48,7 +51,7 @@ fn good_lists(rt: HostRuntime) {
             &sheet,
             &[entry(128, 672), entry(0, 9328), named(2), entry(0, 9328)],
         ),
-        (0, 0, 0)
+        None
     );
     assert_eq!(rt;
         told(
@@ -61,7 +64,7 @@ fn good_lists(rt: HostRuntime) {
                 entry(0, 9328),
             ],
         ),
-        (0, 0, 0)
+        None
     );
     assert_eq!(rt;
         told(
@@ -74,29 +77,29 @@ fn good_lists(rt: HostRuntime) {
                 entry(0, 9328),
             ],
         ),
-        (0, 0, 0)
+        None
     );
 }
 
 #[test]
 fn broken_rules(rt: HostRuntime) {
     let mut sheet = Sheet::new(rt.alloc());
-    assert_eq!(rt; told(&sheet, &[entry(0, 1)]), (7, 0, 0));
+    assert_eq!(rt; told(&sheet, &[entry(0, 1)]), refusal(7, 0, 0));
     let _ = sheet.read(SHEET);
-    assert_eq!(rt; told(&sheet, &[]), (11, 0, 0));
+    assert_eq!(rt; told(&sheet, &[]), refusal(11, 0, 0));
     assert_eq!(rt;
         told(
             &sheet,
             &[entry(129, 672), entry(0, 9328), named(2), entry(0, 9328)],
         ),
-        (12, 1, 0)
+        refusal(12, 1, 0)
     );
     assert_eq!(rt;
         told(
             &sheet,
             &[entry(128, 672), entry(0, 9328), named(1), entry(0, 9328)],
         ),
-        (13, 3, 0)
+        refusal(13, 3, 0)
     );
     assert_eq!(rt;
         told(
@@ -109,14 +112,14 @@ fn broken_rules(rt: HostRuntime) {
                 entry(0, 8656),
             ],
         ),
-        (13, 4, 0)
+        refusal(13, 4, 0)
     );
     assert_eq!(rt;
         told(
             &sheet,
             &[entry(128, 672), entry(0, 9328), named(2), entry(0, 9327)],
         ),
-        (14, 0, 0)
+        refusal(14, 0, 0)
     );
 }
 
@@ -129,7 +132,7 @@ fn late_packets(rt: HostRuntime) {
             &sheet,
             &[entry(128, 671), entry(0, 9329), named(2), entry(0, 9328)],
         ),
-        (15, 1, 1)
+        refusal(15, 1, 1)
     );
     assert_eq!(rt;
         told(
@@ -142,13 +145,13 @@ fn late_packets(rt: HostRuntime) {
                 entry(0, 9328),
             ],
         ),
-        (15, 1, 1)
+        refusal(15, 1, 1)
     );
     assert_eq!(rt;
         told(
             &sheet,
             &[entry(128, 672), entry(0, 9328), entry(0, 9328), named(2)],
         ),
-        (15, 1, 2)
+        refusal(15, 1, 2)
     );
 }

@@ -1,4 +1,4 @@
-// The list drawn from windows.
+// The list drawn from windows. What is asked of them is the schedule's invariant: its methods call these with a part of it.
 ghost use Rattle.std.specs.Prelude.{◌≡◌, ℕ, ◌+◌, ◌^◌, ◌<◌, ◌≤◌, [], ◌∷◌, length, take, drop, if◌then◌else◌, nat_lt};
 ghost use Rattle.std.specs.List.{AllByRecursion};
 ghost use Rattle.search.specs.Windows.{Fits, last_end, first_start, latest};

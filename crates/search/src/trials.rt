@@ -1,4 +1,5 @@
-// The optional packets: each is tried at its one start.
+// The optional packets: each is tried at its one start. That a packet's numbers fit is asked here and in the walk, where its window
+// is made: a type for such a packet would be made of each one for this use alone.
 ghost use Rattle.std.specs.Prelude.{◌≡◌, ℕ, ◌+◌, ◌<◌, ◌≤◌, max, length, MatchOption, nat_le};
 ghost use Rattle.std.specs.List.{All, AllByRecursion, prefix_len};
 ghost use Rattle.search.specs.Windows.{Fits, end, latest};
@@ -51,6 +52,7 @@ fn room_for(windows: &[Window], from: usize, low: u64, job: &Job) -> Option<Room
     ensures { MatchOption result (NoRoom low from job.now windows.now) (HasRoom low from job.now windows.now) }
 {
     let wire = job.wire as u64;
+    // The place goes along with the start: it is wanted behind the loop, where `enumerate` has none.
     let mut start = low;
     let mut place = from;
     for w in &windows[from..] {

@@ -1,4 +1,4 @@
-// One instant after another.
+// One instant after another. Instants are numbers up to the last one, which `advance` tests; a type for them would be taken apart at each sum.
 ghost use Rattle.std.specs.Prelude.{◌≡◌, ◌<◌, ◌≤◌, ◌==◌};
 ghost use Rattle.std.specs.Option.{option_map};
 ghost use Rattle.sending.specs.Calls.{switch, still_pending};
