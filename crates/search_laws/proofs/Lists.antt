@@ -47,13 +47,6 @@ pub all_right : {X : Type 0} (P : X → Type 0) (xs ys : List X) → AllByRecurs
 all_right P [] ys a = a
 all_right P (x ∷ xs) ys a = all_right P xs ys a.1
 
--- what is kept
-pub kept_append : {X : Type 0} (f : X → Bool) (xs ys : List X) → filter f (xs ++ ys) ≡ filter f xs ++ filter f ys
-kept_append f [] ys = refl
-kept_append {X} f (x ∷ xs) ys =
-    let ih = kept_append f xs ys in
-    ⊎_elim (λ (e : f x ≡ true). rw (e, ih)) (λ (e : f x ≡ false). rw (e, ih)) (cases_Bool (f x))
-
 pub packets-append : (xs ys : List Window) → packets (xs ++ ys) ≡ packets xs ++ packets ys
 packets-append [] ys = refl
 packets-append (x ∷ xs) ys = ap (λ (l : List Job). x.packet ∷ l) (packets-append xs ys)
@@ -69,10 +62,6 @@ all_kept P f (x ∷ xs) a =
     (λ (on : f x ≡ true). let k : P x × AllByRecursion P (filter f xs) = rw on at a in (λ _. k.0, all_kept P f xs k.1))
     (λ (off : f x ≡ false). let k : AllByRecursion P (filter f xs) = rw off at a in (λ on. absurd (both_ways _ off on), all_kept P f xs k))
     (cases_Bool (f x))
-
-pub all_some : {X : Type 0} (P : X → Type 0) (f : X → Bool) (xs : List X) → AllByRecursion P xs → AllByRecursion P (filter f xs)
-all_some P f [] a = tt
-all_some P f (x ∷ xs) a = cond_both (f x) (x ∷ filter f xs) (filter f xs) (AllByRecursion P) (λ _. (a.0, all_some P f xs a.1)) (λ _. all_some P f xs a.1)
 
 pub all_any : {X : Type 0} (P : X → Type 0) → ((x : X) → P x) → (xs : List X) → AllByRecursion P xs
 all_any P f [] = tt

@@ -1,7 +1,7 @@
 -- The walk's next window. Assumes nothing.
 use Rattle.std.proofs.Common.{◌≡◌, ℕ, ◌≤◌, max, Bool, true, false, not, leb, ◌⊎◌, List, [], ◌∷◌, Some, None, filter, Option, sym, refl, ap, ◌∙◌, subst, inl, inr, ⊎_elim, arith}
 use Rattle.std.proofs.lemmas.Bool.{cases_Bool, cond_both, both_ways, le-leb, leb-true, leb-false}
-use Rattle.std.proofs.ByRecursion.{All-weaker}
+use Rattle.std.proofs.ByRecursion.{all_kept_by, All-weaker}
 use Rattle.std.specs.List.{AllByRecursion}
 use Rattle.traffic.specs.declared.packet.Job.{Job}
 use Rattle.search.specs.declared.window.Window.{Window}
@@ -9,7 +9,7 @@ use Rattle.traffic.specs.Orders.{JobsDiffer}
 use Rattle.search_laws.specs.Words.{Serving}
 use Rattle.search.specs.Search.{arrived, least_arrival, sooner, first_of, window_at, next}
 use Rattle.search_laws.specs.Laws.{In, Differing, NeverIdle, NextOnce}
-use Rattle.search_laws.proofs.Lists.{in_kept, all_in, all_both, all_kept, all_some}
+use Rattle.search_laws.proofs.Lists.{in_kept, all_in, all_both, all_kept}
 
 least_all : (x : Job) (xs : List Job) → AllByRecursion (λ p. least_arrival x xs ≤ p.arrival) (x ∷ xs)
 least_all x [] = (omega arith, tt)
@@ -89,7 +89,7 @@ same_or_differ r (p ∷ ps) i d =
 
 differing_kept : (f : Job → Bool) (ps : List Job) → Differing ps → Differing (filter f ps)
 differing_kept f [] d = tt
-differing_kept f (p ∷ ps) d = cond_both (f p) (p ∷ filter f ps) (filter f ps) Differing (λ _. (all_some (JobsDiffer p) f ps d.0, differing_kept f ps d.1)) (λ _. differing_kept f ps d.1)
+differing_kept f (p ∷ ps) d = cond_both (f p) (p ∷ filter f ps) (filter f ps) Differing (λ _. (all_kept_by f (JobsDiffer p) ps d.0, differing_kept f ps d.1)) (λ _. differing_kept f ps d.1)
 
 module _ (before : Job → Job → Bool) (laws : Serving before) where
   asym : (x y : Job) → before x y ≡ true → before y x ≡ false

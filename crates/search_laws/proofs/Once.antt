@@ -2,7 +2,7 @@
 use Rattle.std.proofs.Common.{◌≡◌, ℕ, ◌<◌, ◌≤◌, max, Bool, true, false, not, ◌||◌, eqb, ltb, ◌⊎◌, List, [], ◌∷◌, ◌++◌, filter, sym, refl, ap, ◌∙◌, subst, inl, inr, ⊎_elim, append_assoc, append-nil, arith}
 use mathlib.Core.Bool.{or-false, or_assoc}
 use Rattle.std.proofs.lemmas.Bool.{cases_Bool, cond_both, both_ways, and_from, or_from, or_left, or_right, or_parts, not_from_true, not_from_false, eq-eqb, eqb-true, lt-ltb, le-ltb}
-use Rattle.std.proofs.ByRecursion.{All-weaker}
+use Rattle.std.proofs.ByRecursion.{all_kept_by, All-weaker}
 use Rattle.std.specs.List.{AllByRecursion}
 use Rattle.traffic.specs.declared.packet.Job.{Job}
 use Rattle.search.specs.declared.window.Window.{Window}
@@ -10,7 +10,7 @@ use Rattle.search_laws.specs.Words.{packets, windows_of, same_name, named_among}
 use Rattle.search.specs.Windows.{end, Apart}
 use Rattle.search.specs.Search.{Cycle, room, admitted_end, inserted, admissible}
 use Rattle.search_laws.specs.Laws.{In, Part, Unlike, Distinct, Given, WaitsIn, LeastStart, walk_windows, stood, Decided, PlanLaw, PlanLawful, PlanOnce}
-use Rattle.search_laws.proofs.Lists.{all_in, all_from, all_both, all_some, kept_like, apart_after, apart_kept, distinct_part, in_part, all_right}
+use Rattle.search_laws.proofs.Lists.{all_in, all_from, all_both, kept_like, apart_after, apart_kept, distinct_part, in_part, all_right}
 use Rattle.search_laws.proofs.Room.{least-room}
 use Rattle.search_laws.proofs.Names.{unlike_test}
 use Rattle.search_laws.proofs.Admit.{windows_fit}
@@ -40,7 +40,7 @@ kept_one_more f g w a b (v ∷ vs) s p i off on like =
     let gv : g v ≡ true = ap g (sym e) ∙ on in
     let rest : filter g vs ≡ filter f vs = kept_like g f vs (all_both (λ x. (x ≡ w) ⊎ (g x ≡ f x)) (λ x. end v ≤ x.start) (λ x. g x ≡ f x)
     (λ x c l. ⊎_elim (λ (d : x ≡ w). let y : x.start ≡ w.start = ap (λ (z : Window). z.start) d in absurd (omega arith)) (λ (d : g x ≡ f x). d) c) vs like.1 after) in
-    let front = inserted-first w (filter f vs) (all_some (λ x. w.start < x.start) f vs (All-weaker (λ x. end v ≤ x.start) (λ x. w.start < x.start) (λ x l. omega arith) vs after)) in
+    let front = inserted-first w (filter f vs) (all_kept_by f (λ x. w.start < x.start) vs (All-weaker (λ x. end v ≤ x.start) (λ x. w.start < x.start) (λ x l. omega arith) vs after)) in
     rw (fv, gv, rest, front) (ap (λ (x : Window). x ∷ filter f vs) (sym e)))
     (λ (k : In w vs).
     let l = all_in (λ x. end v ≤ x.start) w vs after k in

@@ -10,7 +10,8 @@ use Rattle.search_laws.specs.Words.{packets, windows_of, OnTime}
 use Rattle.search.specs.Drawn.{drawn}
 use Rattle.search.specs.Search.{Cycle, most_entries, firsts, next, without, placed_next, and_then, turn, walked, count}
 use Rattle.search_laws.specs.Laws.{In, WaitsIn, Given}
-use Rattle.search_laws.proofs.Lists.{all_right, kept_append, packets-append, apart_append, apart_to}
+use Rattle.std.proofs.lemmas.List.Elements.{filter-append}
+use Rattle.search_laws.proofs.Lists.{all_right, packets-append, apart_append, apart_to}
 use Rattle.search_laws.proofs.Steps.{went_on}
 use Rattle.search.proofs.Inserts.{placed-is}
 use Rattle.search_laws.proofs.Next.{next_none, next_some}
@@ -98,7 +99,7 @@ placed_on : (left : ℕ → List Job) (ws : List Window) (w : Window) (rest : Li
     packets (windows_of r (ws ++ (w ∷ []))) ++ without w.packet.queue left r ≡ packets (windows_of r ws) ++ left r
 placed_on left ws w rest r e =
     let xs = windows_of r ws in
-    let more : windows_of r (ws ++ (w ∷ [])) ≡ xs ++ cond (eqb w.packet.queue r) (w ∷ []) [] = kept_append (λ v. eqb v.packet.queue r) ws (w ∷ []) in
+    let more : windows_of r (ws ++ (w ∷ [])) ≡ xs ++ cond (eqb w.packet.queue r) (w ∷ []) [] = filter-append (λ v. eqb v.packet.queue r) ws (w ∷ []) in
     ⊎_elim
     (λ (on : eqb w.packet.queue r ≡ true).
     let same = eqb-true _ _ on in
@@ -131,7 +132,7 @@ module _ (before : Job → Job → Bool) (c : Cycle) (given : Given c) where
         within = omega arith;
         fine = All-push (Fine c.long) ws w g.fine ((come, on_time), wide, due);
         placed = λ r. placed_on left ws w rest r first ∙ g.placed r;
-        unnamed = kept_append (λ v. eqb v.packet.queue 0) ws (w ∷ []) ∙ rw (off, append-nil (windows_of 0 ws)) g.unnamed;
+        unnamed = filter-append (λ v. eqb v.packet.queue 0) ws (w ∷ []) ∙ rw (off, append-nil (windows_of 0 ws)) g.unnamed;
         short = short;
         number = omega arith;
       }
