@@ -9,7 +9,7 @@ use gates::opening::opens;
 #[derive(Clone, Copy)]
 pub(crate) struct Cursor<'a> {
     rest: &'a [Entry],
-    pub opened: u64,
+    pub(crate) opened: u64,
     ghost short: { opened + total rest.now ≤ 1000000000 },
 }
 
@@ -20,7 +20,7 @@ impl<'a> Cursor<'a> {
     ghost use Rattle.list_check.specs.Serving.{FirstFit, NoFit};
 
     // The beginning of a list.
-    pub fn start(list: &'a [Entry]) -> Cursor<'a>
+    pub(crate) fn start(list: &'a [Entry]) -> Cursor<'a>
         requires { Sound list.now }
         ensures placed { Placed list.now result }
         ensures opened { result.opened ≡ 0 }
@@ -41,7 +41,7 @@ impl<'a> Cursor<'a> {
     }
 
     // Moves on over the entries that end by an instant.
-    pub fn moved_to(self, from: u64) -> Cursor<'a>
+    pub(crate) fn moved_to(self, from: u64) -> Cursor<'a>
         requires { self.opened ≤ from }
         ensures { Moved self.entry from result }
     {
@@ -56,7 +56,7 @@ impl<'a> Cursor<'a> {
     }
 
     // The first instant from an instant on at which the gate stays open for the time of a packet.
-    pub fn first_fit(self, queue: u8, from: u64, wire: u32) -> Option<u64>
+    pub(crate) fn first_fit(self, queue: u8, from: u64, wire: u32) -> Option<u64>
         requires onward { self.opened ≤ from }
         requires early { from ≤ 4000000000 }
         requires some { 0 < wire }

@@ -61,7 +61,7 @@ pub(crate) struct Front<'a> {
 
 impl<'a> Front<'a> {
     // These entries with these numbers.
-    pub fn new(entries: &'a [Entry], latest: &'a Latest) -> Front<'a>
+    pub(crate) fn new(entries: &'a [Entry], latest: &'a Latest) -> Front<'a>
         requires few { length entries.now ≤ 1024 }
         requires known { known latest.now entries.now ≡ true }
         ensures { result.entries.now ≡ entries.now }
@@ -89,7 +89,7 @@ impl<'a> Front<'a> {
     }
 
     // The rule that an entry behind these breaks first.
-    pub fn check(&self, sheet: &Sheet, entry: &Entry) -> Result<(), CheckFault>
+    pub(crate) fn check(&self, sheet: &Sheet, entry: &Entry) -> Result<(), CheckFault>
         ensures { result ≡ outcome_of (entry_broken (traffic_of sheet.now) self.now.entries.now entry.now) }
     {
         let place = self.entries.len() as u32 + 1;

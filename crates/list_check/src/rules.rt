@@ -48,14 +48,14 @@ fn check_rules(sheet: &Sheet, list: &[Entry]) -> Result<(), CheckFault>
 // A list that keeps the rules for a sheet. An acceptance has these fields, too, and by a rule of the project no invariant.
 #[derive(Clone, Copy)]
 pub(crate) struct Lawful<'a> {
-    pub sheet: &'a Sheet,
-    pub list: &'a [Entry],
+    pub(crate) sheet: &'a Sheet,
+    pub(crate) list: &'a [Entry],
     ghost lawful: { unbroken (first_broken (traffic_of sheet.now) list.now) ≡ true },
 }
 
 impl<'a> Lawful<'a> {
     // The list, or the rule that it breaks first.
-    pub fn of(sheet: &'a Sheet, list: &'a [Entry]) -> Result<Lawful<'a>, CheckFault>
+    pub(crate) fn of(sheet: &'a Sheet, list: &'a [Entry]) -> Result<Lawful<'a>, CheckFault>
         ensures { MatchResult result (λ l. (l.sheet ≡ sheet.entry) × (l.list ≡ list.entry)) (λ fault. Err fault ≡ outcome_of (first_broken (traffic_of sheet.now) list.now)) }
     {
         check_rules(sheet, list)?;

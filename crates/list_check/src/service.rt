@@ -22,7 +22,7 @@ impl<'a> Service<'a> {
     ghost use Rattle.list_check.specs.Service.{Bounded, Misses, Sends};
 
     // Nothing is served yet.
-    pub fn start(list: &'a [Entry]) -> Service<'a>
+    pub(crate) fn start(list: &'a [Entry]) -> Service<'a>
         requires { Sound list.now }
         ensures free { result.free ≡ 0 }
         ensures placed { Placed list.now result.cursor }
@@ -34,7 +34,7 @@ impl<'a> Service<'a> {
     }
 
     // Serves the next packet of the queue at its first fit; none where it is late.
-    pub fn serve(self, x: &Job) -> Option<Service<'a>>
+    pub(crate) fn serve(self, x: &Job) -> Option<Service<'a>>
         requires { Bounded x.now }
         ensures { (es : List Entry) → Sound es → Placed es self.entry.cursor → MatchOption result (Misses es x.now self.entry.free) (λ s. Placed es s.cursor × ((t : ℕ) × Sends es x.now self.entry.free s.free t)) }
     {
