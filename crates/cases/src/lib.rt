@@ -1,8 +1,8 @@
 // Programs that compare answers with those that stand in files.
 #![tactic(auto)]
 
-ghost use Rattle.std.specs.Prelude.{◌≡◌};
-ghost use Rattle.cases.specs.Tallies.{tallied};
+ghost use Rattle.std.specs.Prelude.{◌≡◌, Some};
+ghost use Rattle.cases.specs.Tallies.{tallied, tally_text};
 
 use std::{fmt, fs};
 
@@ -27,6 +27,8 @@ impl Tally {
 }
 
 impl fmt::Display for Tally {
+    ghost output = { λ t. Some (tally_text t) };
+
     fn fmt<W: fmt::Write>(&self, f: &mut fmt::Formatter<W>) -> fmt::Result {
         write!(f, "{} agree, {} differ", self.agree, self.differ)
     }
