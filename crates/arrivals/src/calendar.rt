@@ -5,6 +5,7 @@ ghost use Rattle.arrivals.specs.Cursors.{standing};
 
 use sheet::sheet::Sheet;
 use table::owned::Table;
+use traffic::flow::MOST_FLOWS;
 use traffic::packet::Packet;
 use traffic::sort::Sort;
 
@@ -17,7 +18,7 @@ pub struct Calendar<'a> {
     sheet: &'a Sheet,
     sort: Sort,
     end: u64,
-    cursors: Table<Packet, 64>,
+    cursors: Table<Packet, MOST_FLOWS>,
     ghost early: { end ≤ 4000000000000000000 },
     ghost stands: { standing sort (traffic_of sheet.now).flows end cursors ≡ true },
 }

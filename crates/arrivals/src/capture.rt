@@ -12,7 +12,7 @@ use traffic::packet::Packet;
 // The most packets that a capture has.
 pub const MOST_PACKETS: usize = 4096;
 
-// Does the next record rise above the one in front of it? An equal does not.
+// Does the next record rise above the one in front of it? An equal does not. Delivery order has this name here.
 fn rises(front: &Packet, next: &Packet) -> bool
     ensures { result ≡ delivered_before front.now next.now }
 {

@@ -4,12 +4,12 @@ ghost use Rattle.arrivals.specs.Upcoming.{NoPacket, NextPacket};
 ghost use Rattle.arrivals.specs.Cursors.{FirstCursors};
 
 use table::owned::Table;
-use traffic::flow::Flow;
+use traffic::flow::{Flow, MOST_FLOWS};
 use traffic::packet::Packet;
 use traffic::sort::Sort;
 
 // The first packet of the sort of flow `index`, from packet `from` on, if it arrives before the end.
-pub fn next_packet(flow: &Flow, index: u8, sort: Sort, from: u64, end: u64) -> Option<Packet>
+pub(crate) fn next_packet(flow: &Flow, index: u8, sort: Sort, from: u64, end: u64) -> Option<Packet>
     requires { (1 ≤ from) × (from ≤ 2 ^ 63) }
     ensures { MatchOption result (NoPacket sort flow.now from end) (NextPacket sort flow.now index from end) }
 {
@@ -23,8 +23,8 @@ pub fn next_packet(flow: &Flow, index: u8, sort: Sort, from: u64, end: u64) -> O
 }
 
 // The first packet of the sort of each flow that has one before the end; there is a place for each.
-pub fn first_cursors(flows: &[Flow], sort: Sort, end: u64) -> Table<Packet, 64>
-    requires { length flows.now ≤ 64 }
+pub(crate) fn first_cursors(flows: &[Flow], sort: Sort, end: u64) -> Table<Packet, MOST_FLOWS>
+    requires { length flows.now ≤ MOST_FLOWS }
     ensures { FirstCursors sort flows.now end result }
 {
     let mut cursors = Table::new();

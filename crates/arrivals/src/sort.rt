@@ -1,2 +1,2 @@
-// The two sorts of packets.
+// The two sorts of packets, under the path that callers of a calendar know.
 pub use traffic::sort::Sort;

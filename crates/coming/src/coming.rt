@@ -10,7 +10,7 @@ ghost use Rattle.coming.specs.Packets.{packets_before};
 use sheet::sheet::Sheet;
 use std::marker::Model;
 use table::owned::Table;
-use traffic::flow::Flow;
+use traffic::flow::{Flow, MOST_FLOWS};
 use traffic::packet::Job;
 use traffic::sort::Sort;
 
@@ -52,10 +52,10 @@ impl<'a> Lane<'a> {
     }
 
     // That packet joins the next ones, if there is one.
-    fn join(&self, next: &mut Table<Job, 64>, index: u8, from: u64)
+    fn join(&self, next: &mut Table<Job, MOST_FLOWS>, index: u8, from: u64)
         requires flow { (0 < index) × (index ≤ length (traffic_of self.now.sheet.now).flows) }
         requires number { (1 ≤ from) × (from ≤ 2 ^ 63) }
-        requires room { length next.old < 64 }
+        requires room { length next.old < MOST_FLOWS }
         ensures { Joins (traffic_of self.now.sheet.now) self.now.sheet.now.cycle self.now.queue index from next.old next.new }
     {
         if let Some(job) = self.next_job(index, from) {
@@ -68,7 +68,7 @@ impl<'a> Lane<'a> {
 #[derive(Drop)]
 pub struct Queue<'a> {
     lane: Lane<'a>,
-    next: Table<Job, 64>,
+    next: Table<Job, MOST_FLOWS>,
 }
 
 impl<'a> Model for Queue<'a> {
@@ -93,8 +93,8 @@ impl<'a> Queue<'a> {
     {
         let lane = Lane { sheet, queue };
         let mut next = Table::new();
-        for before in 0..sheet.flows().len() as u8 {
-            lane.join(&mut next, before + 1, 1);
+        for index in 1..sheet.flows().len() as u8 + 1 {
+            lane.join(&mut next, index, 1);
         }
         Queue { lane, next }
     }

@@ -4,7 +4,8 @@
 pub const MOST_ENTRIES: usize = 1024;
 
 // One step of a gate list: for `interval` nanoseconds the gates stand as `gates` says, bit q opening queue q.
-// `flow` and `number` name an optional packet that the list admits; both are 0 where none is named.
+// `flow` and `number` name an optional packet that the list admits; both are 0 where none is named: by a rule of the project
+// an entry is these numbers, and memory for entries that is all zero holds entries.
 #[derive(Clone, Copy, PartialEq, Eq, Debug)]
 pub struct Entry {
     pub gates: u8,

@@ -1,4 +1,5 @@
-// Which gate is open at an offset of a list, and how long it stays open.
+// Which gate is open at an offset of a list, and how long it stays open. List and offset stay two parameters, here and in the port:
+// a value of both would be made for each call.
 ghost use Rattle.std.specs.Prelude.{◌≡◌, ◌-◌, ◌^◌, min};
 ghost use Rattle.gates.specs.Open.{opens, entry_at, gates_at, gate_of, open_at, open_for};
 ghost use Rattle.gates.specs.OpenLaws.{OneGateOpen, StaysFor, OneStretch};
@@ -22,6 +23,7 @@ pub fn opens(gates: u8, queue: u8) -> bool
 pub fn entry_at(list: &[Entry], offset: u64) -> Option<(Entry, u64)>
     ensures { result ≡ entry_at list.now offset }
 {
+    // a search with a running sum, which `find` would have to keep in its closure
     let mut ahead = offset;
     for entry in list {
         let interval = entry.interval as u64;

@@ -63,6 +63,7 @@ impl<'a> Cursor<'a> {
         ensures later { IfSome result (λ t. from ≤ t) }
         ensures fits { (es : List Entry) → Sound es → Placed es self.entry → MatchOption result (NoFit es queue from wire) (FirstFit es queue from wire) }
     {
+        // a search with running sums, which `find` would have to keep in its closure
         let mut start = from;
         let mut end = self.opened;
         for entry in self.rest {

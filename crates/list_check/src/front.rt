@@ -1,4 +1,4 @@
-// What an entry may do behind the entries in front of it.
+// What an entry may do behind the entries in front of it. The sheet goes along with the entry: the front is of the list alone.
 ghost use Rattle.std.specs.Prelude.{◌≡◌, ◌≤◌, true, List, [], ◌∷◌, ◌++◌, length};
 ghost use Rattle.cycle.specs.Cycle.{packets_in};
 ghost use Rattle.gates.specs.declared.entry.Entry.{Entry};
@@ -33,10 +33,9 @@ fn packets_in(cycle: u64, flow: &Flow) -> u64
 fn is_optional(sheet: &Sheet, flow: u8, number: u64) -> bool
     ensures { result ≡ optional_there (traffic_of sheet.now) flow number }
 {
-    let Some(f) = sheet.flow(flow) else {
-        return false;
-    };
-    number >= 1 && number <= packets_in(sheet.cycle(), &f) && !is_mandatory(&f, number)
+    sheet.flow(flow).is_some_and(|f| {
+        number >= 1 && number <= packets_in(sheet.cycle(), &f) && !is_mandatory(&f, number)
+    })
 }
 
 // The greatest number named so far of each flow.

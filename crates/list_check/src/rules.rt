@@ -1,4 +1,4 @@
-// The rules of a gate list.
+// The rules of a gate list. That a list is no longer than it may be is asked behind the one test: it is `Lawful` at the end.
 ghost use Rattle.std.specs.Prelude.{◌≡◌, ◌≤◌, true, [], length, MatchResult};
 ghost use Rattle.sheet.specs.Contents.{traffic_of};
 ghost use Rattle.sending.specs.Rules.{total, entries_broken, first_broken};

@@ -3,6 +3,7 @@ use crate::acceptance::check as check_list;
 use gates::entry::Entry;
 use refusal::Refusal;
 use sheet::sheet::Sheet;
+use std::test::Fail;
 
 // One flow, of which every second packet is optional.
 const SHEET: &[u8] =
@@ -43,9 +44,9 @@ fn told<'x>(sheet: &'x Sheet, list: &'x [Entry]) -> Option<Refusal> {
 }
 
 #[test]
-fn good_lists(rt: HostRuntime) {
+fn good_lists(rt: HostRuntime) -> Result<(), Fail> {
     let mut sheet = Sheet::new(rt.alloc());
-    let _ = sheet.read(SHEET);
+    sheet.read(SHEET)?;
     assert_eq!(rt;
         told(
             &sheet,
@@ -79,13 +80,14 @@ fn good_lists(rt: HostRuntime) {
         ),
         None
     );
+    Ok(())
 }
 
 #[test]
-fn broken_rules(rt: HostRuntime) {
+fn broken_rules(rt: HostRuntime) -> Result<(), Fail> {
     let mut sheet = Sheet::new(rt.alloc());
     assert_eq!(rt; told(&sheet, &[entry(0, 1)]), refusal(7, 0, 0));
-    let _ = sheet.read(SHEET);
+    sheet.read(SHEET)?;
     assert_eq!(rt; told(&sheet, &[]), refusal(11, 0, 0));
     assert_eq!(rt;
         told(
@@ -121,12 +123,13 @@ fn broken_rules(rt: HostRuntime) {
         ),
         refusal(14, 0, 0)
     );
+    Ok(())
 }
 
 #[test]
-fn late_packets(rt: HostRuntime) {
+fn late_packets(rt: HostRuntime) -> Result<(), Fail> {
     let mut sheet = Sheet::new(rt.alloc());
-    let _ = sheet.read(SHEET);
+    sheet.read(SHEET)?;
     assert_eq!(rt;
         told(
             &sheet,
@@ -154,4 +157,5 @@ fn late_packets(rt: HostRuntime) {
         ),
         refusal(15, 1, 2)
     );
+    Ok(())
 }

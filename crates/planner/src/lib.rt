@@ -18,7 +18,7 @@ use sheet::refusals::sheet_refusal;
 use sheet::sheet::Sheet;
 use std::alloc::{AllocError, Global};
 
-// More bytes than the text of any list: 1,024 lines of at most 30 bytes.
+// As many bytes as the text of any list: 1,024 lines of at most 30 bytes.
 const LONGEST_TEXT: usize = 30_720;
 
 // The lines of a refusal.
@@ -46,7 +46,8 @@ fn list_text(heap: Global, list: &[Entry]) -> Result<Vec<u8>, AllocError>
     written_in(heap, list, memory.as_mut_slice())
 }
 
-// The text of the sheet's deadline-monotonic list, or of the refusal of its search, by way of this memory.
+// The text of the sheet's deadline-monotonic list, or of the refusal of its search, by way of this memory: the two lent memories
+// go side by side, as the search takes them.
 fn found_in(
     heap: Global,
     sheet: &Sheet,

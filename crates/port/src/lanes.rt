@@ -6,15 +6,13 @@ ghost use Rattle.port.specs.Lanes.{queue_at, waiting_of, nothing_waits, LaneJoin
 
 use gates::opening::QUEUES;
 use table::owned::Table;
+use traffic::flow::MOST_FLOWS;
 use traffic::packet::{Job, Packet};
 
-// The places of a queue: one for each flow that a sheet may have.
-const PLACES: usize = 64;
-
-// A queue for each gate: the packets that wait there, each with what the sheet says of it.
+// A queue for each gate: the packets that wait there, each with what the sheet says of it, and a place for each flow.
 #[derive(Drop)]
 pub(crate) struct Lanes {
-    queues: [Table<Job, PLACES>; QUEUES],
+    queues: [Table<Job, MOST_FLOWS>; QUEUES],
 }
 
 impl Lanes {
@@ -54,7 +52,7 @@ impl Lanes {
     // A packet joins its queue, where there is room.
     pub(crate) fn join(&mut self, job: Job)
         requires there { job.queue < 8 }
-        requires room { length (queue_at self.old job.queue) < 64 }
+        requires room { length (queue_at self.old job.queue) < MOST_FLOWS }
         ensures { LaneJoined job self.old self.new }
     {
         let _ = self.queues[job.queue as usize].put(job);

@@ -70,7 +70,8 @@ impl From<Reason> for Refusal {
     }
 }
 
-// Refusal `code`, from 1 to 21; place and number are 0 where it names none.
+// Refusal `code`, from 1 to 21; place and number are 0 where it names none. All three stay numbers, since so they are told,
+// and anyone may make a refusal of any; `Reason` names the codes.
 #[derive(Clone, Copy, PartialEq, Eq, Debug)]
 pub struct Refusal {
     pub code: u8,

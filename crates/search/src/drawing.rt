@@ -12,6 +12,7 @@ pub(crate) fn end_of_last(windows: &[Window]) -> u64
     requires { AllByRecursion Fits windows.now }
     ensures { result ≡ last_end 0 windows.now }
 {
+    // Not `map_or`: tried, and the proof of its closure did not get at the window.
     match windows.last() {
         Some(w) => w.end(),
         None => 0,
@@ -52,7 +53,8 @@ fn entry_of(w: &Window) -> Entry
 }
 
 // Writes an entry at a place, and answers the place after it.
-// The list and the place stay apart: a struct that held the lent list would owe a clause on its reference at each method.
+// The list and the place stay apart: a struct that held the lent list would have to say at each method that it is the same
+// one, for two short functions and a loop.
 fn write(list: &mut [Entry], n: usize, e: Entry) -> usize
     requires { n < length list.old }
     ensures { Wrote (e ∷ []) n result list.old list.new }

@@ -36,7 +36,8 @@ fn ended(windows: &[Window], low: u64) -> usize
     windows.iter().take_while(|w| w.end() <= low).count()
 }
 
-// How many windows end by the instant `low`, where so many are known to.
+// How many windows end by the instant `low`, where so many are known to. This and the next are asked of the schedule's windows
+// as a slice, since they read no more of it.
 fn windows_passed(windows: &[Window], from: usize, low: u64) -> usize
     requires fit { AllByRecursion Fits windows.now }
     requires passed { Passed low from windows.now }
@@ -82,6 +83,7 @@ fn admit_packet(schedule: &mut Schedule, passed: usize, low: u64, job: Job) -> O
         start: room.start,
         packet: job,
     };
+    // Not `ok()?`: tried, and through it the proof did not get at what `insert` ensures.
     match schedule.insert(room.place, w) {
         Ok(()) => Some(w.end()),
         Err(_) => None,

@@ -5,7 +5,7 @@ ghost use Rattle.sheet.specs.Numbers.{read_number, digits_value, on_line};
 
 use crate::faults::{Cause, DigitFault};
 
-// The number that ten digits or fewer write; none where a byte is no digit.
+// The number that ten digits or fewer write; none where a byte is no digit. By hand, since `parse` takes a sign, too.
 fn decimal(bytes: &[u8]) -> Option<u64>
     requires { length bytes.now ≤ 10 }
     ensures { result ≡ (if all_ascii_digits bytes.now then Some (digits_value 0 bytes.now) else None) }

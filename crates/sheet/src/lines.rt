@@ -9,7 +9,7 @@ use crate::faults::LineFault;
 
 // The key of a line.
 #[derive(Clone, Copy, PartialEq, Eq, Debug)]
-pub enum Key {
+pub(crate) enum Key {
     Rate,
     Flow,
     Queue,
@@ -24,14 +24,14 @@ pub enum Key {
 
 // The bytes of a line's number, with the line's place in the text, counted from 1.
 #[derive(Clone, Copy)]
-pub struct Part<'a> {
+pub(crate) struct Part<'a> {
     pub line: u32,
     pub bytes: &'a [u8],
 }
 
 // A line by its key, which was cut off. That the kinds stand here, too, is a rule of the project; `with` and `key` tie them to `Key`.
 #[derive(Clone, Copy)]
-pub enum Line<'a> {
+pub(crate) enum Line<'a> {
     Rate(Part<'a>),
     Flow(Part<'a>),
     Queue(Part<'a>),
@@ -170,7 +170,7 @@ impl<'a> Part<'a> {
         ensures { result ≡ ranged self.now.line low high self.now.bytes.now }
     {
         let n = number(self.line, self.bytes)?;
-        if n < low || n > high {
+        if !(low..=high).contains(&n) {
             return Err(LineFault::Range(self.line));
         }
         Ok(n)

@@ -10,7 +10,7 @@ pub mod packets;
 pub mod parts;
 pub mod reads;
 
-// The rate of the line and the flows, which count from 1; none where no sheet was read.
+// The rate of the line, the flows, which count from 1, and their cycle; no flows where no sheet was read.
 #[derive(Drop)]
 pub struct Sheet {
     rate: Rate,

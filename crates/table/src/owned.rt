@@ -8,7 +8,8 @@ use crate::order::Ordered;
 use crate::table::{put, show, take_first};
 use std::marker::Model;
 
-// At most `N` records, which stand in their order. Clauses see the list of them.
+// At most `N` records, which stand in their order. Clauses see the list of them. The calls over a lent slice serve it, too:
+// one implementation, where an array with a length from a library would be a second one.
 #[derive(Drop)]
 pub struct Table<T: Ordered + Copy, const N: usize> {
     memory: [T; N],

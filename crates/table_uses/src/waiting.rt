@@ -4,7 +4,8 @@ ghost use Rattle.std.proofs.Common.{rules};
 
 use table::order::Ordered;
 
-// A packet that waits: its flow, its number and its arrival. Crate `traffic` has such a type; this one shows how a type gets an order, on `table` alone.
+// A packet that waits: its flow, its number and its arrival. Crate `traffic` has such a type; this one shows how a type gets
+// an order, on `table` alone.
 #[derive(Clone, Copy, PartialEq, Eq, Debug, Default)]
 pub struct Waiting {
     pub flow: u8,

@@ -25,7 +25,7 @@ impl Ordered for Window {
     }
 }
 
-// The later of two windows; of two with one start the one that was put last.
+// The later of two windows; of two with one start the one that was put last. It shows the calls over lent memory.
 pub fn later_of(a: Window, b: Window) -> Option<Window>
     ensures { result ≡ Some (later a b) }
 {

@@ -1,5 +1,8 @@
 // A flow of the sheet.
 
+// The most flows of a sheet.
+pub const MOST_FLOWS: usize = 64;
+
 // A flow: a packet of `octets` every `period`, to be sent within `deadline`, of which
 // at most `miss` among any `among` in a row may be lost.
 #[derive(Clone, Copy, PartialEq, Eq, Debug)]

@@ -14,8 +14,8 @@ pub enum Sort {
 
 impl Flow {
     // The number of the flow's first packet of the sort from packet `from` on, by its place in the pattern; none where the
-    // flow has no packet of the sort. Numbers are asked to fit here and in the calls above, which take them from packets of
-    // three types and add one: a type for a number that fits would be made and taken apart at each.
+    // flow has no packet of the sort. That a number fits is asked here and in the calls above, in `arrivals` and `coming`: a type
+    // for such a number would be made and taken apart at each.
     pub fn next_of_sort(&self, sort: Sort, from: u64) -> Option<u64>
         requires { (1 ≤ from) × (from ≤ 2 ^ 63) }
         ensures { MatchOption result (NoneFrom (of_sort sort self.now) from) (FirstFrom (of_sort sort self.now) from) }

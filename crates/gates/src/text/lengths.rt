@@ -17,7 +17,8 @@ fn entry_length(entry: Entry) -> usize
         + 4
 }
 
-// The number of bytes of a list's text. It is asked of a list whose size was tested; a type for such a list would be made for this call alone.
+// The number of bytes of a list's text. It is asked of a list whose size was tested; a type for such a list would be made
+// for this call alone.
 pub(super) fn text_length(list: &[Entry]) -> usize
     requires { length list.now ≤ 1024 }
     ensures { result ≡ length (list_text list.now) }

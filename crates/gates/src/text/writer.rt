@@ -6,7 +6,8 @@ ghost use Rattle.gates.specs.Writes.{Wrote};
 use crate::entry::Entry;
 use crate::text::digits::{digit_count, write_digits};
 
-// Writes one text after another into `memory`, which a caller lends; the next begins at `at`.
+// Writes one text after another into `memory`, which a caller lends; the next begins at `at`. A formatter would do for `write!`
+// if it could not fail: this text is known to fit.
 #[derive(Drop)]
 pub(super) struct Writer<'a> {
     pub(super) memory: &'a mut [u8],

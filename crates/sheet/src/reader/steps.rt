@@ -54,7 +54,7 @@ impl<'a> Reader<'a> {
     pub(super) fn rate(&mut self) -> Result<Rate, LineFault>
         ensures { Reads (rate_line (cursor self.old)) result (cursor self.new) }
     {
-        // Its only caller: a `TryFrom` for `Rate` would be this match and a second one of the answer.
+        // A `TryFrom` for `Rate`, called here alone, would be this match and a second one of its answer.
         let line = self.line;
         match self.number(Key::Rate, 0, 9_999_999_999)? {
             10 => Ok(Rate::Mbit10),
