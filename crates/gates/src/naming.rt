@@ -1,4 +1,5 @@
-// Which packets a list names.
+// Which packets a list names. Flow and number stay two parameters, here and elsewhere: entries, packets and faults have them as
+// fields of their own.
 ghost use Rattle.std.specs.Prelude.{◌≡◌};
 ghost use Rattle.gates.specs.Entries.{names};
 

@@ -22,7 +22,7 @@ fn is_well_gated(entry: &Entry) -> bool
     entry.interval >= 1 && (entry.gates == 0 || entry.gates.is_power_of_two())
 }
 
-// How many packets of the flow arrive in a cycle.
+// How many packets of the flow arrive in a cycle. `number_in_cycle` begins so, and answers something else.
 fn packets_in(cycle: u64, flow: &Flow) -> u64
     ensures { result ≡ packets_in cycle flow.now }
 {

@@ -1,4 +1,5 @@
-// What a port has at hand.
+// What a port has at hand. A list, an instant and its offset are parameters of the steps, since they change from instant to instant;
+// that an instant is not past the last one is asked as in `port::instants`.
 ghost use Rattle.std.specs.Prelude.{◌≡◌, ℕ, [], None};
 ghost use Rattle.sheet.specs.Contents.{traffic_of};
 ghost use Rattle.sending.specs.Calls.{no_counts};

@@ -10,7 +10,8 @@ use traffic::orders::queue_before;
 use traffic::packet::Job;
 
 // An order between packets: of two that differ in flow or arrival exactly one is before the other. The two below compare a number
-// and then by queue order: for a tuple, queue order would have to be a key of its own.
+// and then by queue order: for a tuple, queue order would have to be a key of its own. Which number
+// comes first is all that an order is, so each says it.
 pub trait ServingOrder {
     // `before o x y`: under the order o, x is served before y
     ghost before: { Self → Job → Job → Bool };
