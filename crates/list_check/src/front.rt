@@ -38,7 +38,7 @@ fn is_optional(sheet: &Sheet, flow: u8, number: u64) -> bool
     })
 }
 
-// The greatest number named so far of each flow.
+// The greatest number named so far of each flow: an array by flow number, since memory is fixed and each is found at once.
 pub(crate) type Latest = [u32; 256];
 
 // An entry is the latest one of its flow.
