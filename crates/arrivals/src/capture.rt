@@ -12,7 +12,8 @@ use traffic::packet::Packet;
 // The most packets that a capture has.
 pub const MOST_PACKETS: usize = 4096;
 
-// Does the next record rise above the one in front of it? An equal does not. Delivery order has this name here.
+// Does the next record rise above the one in front of it? An equal does not. It is delivery order, by the name that the
+// rule of a capture has.
 fn rises(front: &Packet, next: &Packet) -> bool
     ensures { result ≡ delivered_before front.now next.now }
 {

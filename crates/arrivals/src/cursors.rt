@@ -8,8 +8,8 @@ use traffic::flow::{Flow, MOST_FLOWS};
 use traffic::packet::Packet;
 use traffic::sort::Sort;
 
-// The first packet of the sort of flow `index`, from packet `from` on, if it arrives before the end. What else `job_of` works out
-// of a packet no source needs.
+// The first packet of the sort of flow `index`, from packet `from` on, if it arrives before the end. No source needs what else
+// `job_of` works out. That `from` fits is asked as in `next_of_sort`.
 pub(crate) fn next_packet(flow: &Flow, index: u8, sort: Sort, from: u64, end: u64) -> Option<Packet>
     requires { (1 ≤ from) × (from ≤ 2 ^ 63) }
     ensures { MatchOption result (NoPacket sort flow.now from end) (NextPacket sort flow.now index from end) }

@@ -22,7 +22,7 @@ struct Lane<'a> {
 }
 
 impl<'a> Lane<'a> {
-    // The number of the flow's first packet from a number on that waits in the queue.
+    // The number of the flow's first packet from a number on that waits in the queue. That `from` fits is asked as in `next_of_sort`.
     fn next_number(&self, flow: &Flow, from: u64) -> Option<u64>
         requires { (1 ≤ from) × (from ≤ 2 ^ 63) × (0 < flow.now.queue) }
         ensures { MatchOption result (NoneFrom (waits_in self.now.queue flow.now) from) (FirstFrom (waits_in self.now.queue flow.now) from) }
@@ -44,11 +44,7 @@ impl<'a> Lane<'a> {
     {
         let number = self.next_number(&self.sheet.flow(index)?, from)?;
         let job = self.sheet.job(index, number)?;
-        if job.arrival < self.sheet.cycle() {
-            Some(job)
-        } else {
-            None
-        }
+        (job.arrival < self.sheet.cycle()).then_some(job)
     }
 
     // That packet joins the next ones, if there is one.

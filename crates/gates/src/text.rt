@@ -39,7 +39,7 @@ impl From<WriteFault> for Refusal {
 }
 
 // Writes the lines of a list from the beginning of the memory on, and answers where they end.
-// There is room for them, or for any lines so many.
+// There is room for them, or for as many of the longest lines.
 fn write_entries(list: &[Entry], memory: &mut [u8]) -> usize
     requires { (length (list_text list.now) ≤ length memory.old) ⊎ (30 * length list.now ≤ length memory.old) }
     ensures { WrittenAt (list_text list.now) 0 result memory.old memory.new }

@@ -1,4 +1,4 @@
-// The rules of a gate list. That a list is no longer than it may be is asked behind the one test: it is `Lawful` at the end.
+// The rules of a gate list. `check_rules` tests how long it is; what it calls behind that asks for it, and what passes is `Lawful`.
 ghost use Rattle.std.specs.Prelude.{◌≡◌, ◌≤◌, true, [], length, MatchResult};
 ghost use Rattle.sheet.specs.Contents.{traffic_of};
 ghost use Rattle.sending.specs.Rules.{total, entries_broken, first_broken};

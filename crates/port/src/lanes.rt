@@ -1,4 +1,5 @@
-// The eight queues of a port. A queue is a number below 8 here: a type of its own would be made of what packets and lists hold at each call.
+// The eight queues of a port. A queue is a number below 8 here: packets and lists hold numbers, and a type would be made of
+// them at each call.
 ghost use Rattle.std.specs.Prelude.{◌≡◌, ℕ, ◌<◌, [], length};
 ghost use Rattle.std.specs.List.{slice_get};
 ghost use Rattle.sending.specs.Port.{holds};

@@ -1,5 +1,5 @@
 // Which packets are of the sheet, and which of them a list admits. Sheet and packet stay apart: a value of both would be made
-// at two places, for one call each.
+// at three places, for one call each.
 ghost use Rattle.std.specs.Prelude.{◌≡◌, ◌≤◌, true, if◌then◌else◌, Some, None};
 ghost use Rattle.sheet.specs.Contents.{traffic_of};
 ghost use Rattle.cycle.specs.Cycle.{number_in_cycle};

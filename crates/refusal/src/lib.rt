@@ -70,8 +70,8 @@ impl From<Reason> for Refusal {
     }
 }
 
-// Refusal `code`, from 1 to 21; place and number are 0 where it names none. All three stay numbers, since so they are told,
-// and anyone may make a refusal of any; `Reason` names the codes.
+// Refusal `code`, from 1 to 21; place and number are 0 where it names none. All three stay numbers, since they are told so,
+// and anyone may make a refusal of any number; `Reason` names the codes.
 #[derive(Clone, Copy, PartialEq, Eq, Debug)]
 pub struct Refusal {
     pub code: u8,
@@ -80,7 +80,7 @@ pub struct Refusal {
 }
 
 impl Refusal {
-    // A refusal that names no place and no number.
+    // A refusal that names no place and no number. This and `at` take any code; `Reason` makes those of the project by them.
     pub fn plain(code: u8) -> Refusal
         ensures { result ≡ plain code }
     {

@@ -32,7 +32,8 @@ fn planned<O: ServingOrder>(
 }
 
 // Searches a gate list for the sheet under a serving order, and answers its length. The list is then at the start of the
-// list memory, and all else of the lent memory is zero. Both memories are lent by a rule of the project.
+// list memory, and all else of the lent memory is zero. Both memories are lent by a rule of the project; sheet and order
+// stay apart, since a caller has each on its own.
 pub fn search<O: ServingOrder>(
     sheet: &Sheet,
     order: &O,

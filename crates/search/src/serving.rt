@@ -9,14 +9,13 @@ ghost use Rattle.traffic.proofs.Total.{queue_order};
 use traffic::orders::queue_before;
 use traffic::packet::Job;
 
-// An order between packets: of two that differ in flow or arrival exactly one is before the other. The two below compare a number
-// and then by queue order: for a tuple, queue order would have to be a key of its own. Which number
-// comes first is all that an order is, so each says it.
+// An order between packets: of two that differ in flow or arrival exactly one is before the other. Each of the two below goes by
+// a number, then by queue order; a tuple would need queue order as a key of its own. The number is all that differs, so each says it.
 pub trait ServingOrder {
     // `before o x y`: under the order o, x is served before y
     ghost before: { Self → Job → Job → Bool };
 
-    // Whether `x` is before `y`.
+    // Whether `x` is before `y`. The two stay apart: a pair would be made for each comparison.
     fn is_before(&self, x: &Job, y: &Job) -> bool
         ensures { result ≡ before self.now x.now y.now };
 

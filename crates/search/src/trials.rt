@@ -36,7 +36,7 @@ fn ended(windows: &[Window], low: u64) -> usize
     windows.iter().take_while(|w| w.end() <= low).count()
 }
 
-// How many windows end by the instant `low`, where so many are known to. This and the next are asked of the schedule's windows
+// How many windows end by the instant `low`, where the first `from` are known to. This and `room_for` take the schedule's windows
 // as a slice, since they read no more of it.
 fn windows_passed(windows: &[Window], from: usize, low: u64) -> usize
     requires fit { AllByRecursion Fits windows.now }

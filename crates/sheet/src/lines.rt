@@ -29,7 +29,8 @@ pub(crate) struct Part<'a> {
     pub bytes: &'a [u8],
 }
 
-// A line by its key, which was cut off. That the kinds stand here, too, is a rule of the project; `with` and `key` tie them to `Key`.
+// A line by its key, which was cut off. By a rule of the project a line is an enum of its ten kinds; `with` and `key` tie them
+// to `Key`.
 #[derive(Clone, Copy)]
 pub(crate) enum Line<'a> {
     Rate(Part<'a>),

@@ -1,5 +1,6 @@
 // The table's calls. A table is a caller's slice, its memory, and a length: it holds the first `len` records of the slice.
-// Slice and length stand side by side by a rule of the project, that these work in memory that a caller lends; `owned` has the table as one value.
+// Slice and length stand side by side, since by a rule of the project these calls work in memory that a caller lends;
+// `owned` has the table as one value.
 ghost use Rattle.std.specs.Prelude.{◌≡◌, take, MatchOption, MatchResult};
 ghost use Rattle.std.specs.List.{slice_get};
 ghost use Rattle.table.specs.Calls.{PlaceFor, Put, Kept, Taken, Nothing};

@@ -5,7 +5,8 @@ ghost use Rattle.traffic.specs.Pattern.{pattern, mandatory_at, optionals};
 use crate::flow::Flow;
 
 // The pattern (w, h) of a flow that may miss some packets among so many in a row:
-// after h mandatory packets come w optional ones. Callers add the two where they want the whole pattern: each wants one of them, too.
+// after h mandatory packets come w optional ones. Callers add the two where they want the whole pattern: all but the time of a
+// pattern want one of them, too.
 pub fn pattern(miss: u8, among: u8) -> (u8, u8)
     ensures value { result ≡ pattern miss among }
     ensures length { (0 < result.0 + result.1) × (result.0 + result.1 < 512) }

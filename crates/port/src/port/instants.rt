@@ -1,4 +1,5 @@
-// One instant after another. Instants are numbers up to the last one, which `advance` tests; a type for them would be taken apart at each sum.
+// One instant after another. Instants are numbers up to the last one, and an end is not below the clock: `advance` tests both.
+// Types for them would be taken apart at each sum.
 ghost use Rattle.std.specs.Prelude.{◌≡◌, ◌<◌, ◌≤◌, ◌==◌};
 ghost use Rattle.std.specs.Option.{option_map};
 ghost use Rattle.sending.specs.Calls.{switch, still_pending};

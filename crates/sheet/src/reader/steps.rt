@@ -64,7 +64,8 @@ impl<'a> Reader<'a> {
         }
     }
 
-    // The lines of queue and octets. `number` keeps the ranges, so no cast loses a bit, and `try_from` would add an `Err` that never comes.
+    // The lines of queue and octets. `number` keeps the ranges, so no cast loses a bit; `try_from` would add an `Err` that
+    // never comes.
     fn frame(&mut self) -> Result<Frame, LineFault>
         ensures { Reads (frame_lines (cursor self.old)) result (cursor self.new) }
     {

@@ -10,8 +10,8 @@ use traffic::flow::Flow;
 use traffic::rate::Rate;
 
 impl<'a> Reader<'a> {
-    // The flows up to the line that counts them, into an empty vector: here and in the calls above it is the sheet's own, whose
-    // memory stays, and which has forgotten its flows.
+    // The flows up to the line that counts them, into an empty vector, here and in the calls above: it is the sheet's own, whose
+    // flows were forgotten and whose memory stays.
     fn flows(&mut self, rate: Rate, flows: &mut Vec<Flow>) -> Result<(), SheetFault>
         requires { flows.old.items ≡ [] }
         ensures { MatchResult result (λ _. flows_from 64 rate [] (cursor self.old) ≡ Ok (flows.new.items, cursor self.new)) (λ e. (e ≡ Memory) ⊎ (in_sheet (flows_from 64 rate [] (cursor self.old)) ≡ Err e)) }
