@@ -56,7 +56,7 @@ after_other x n h = and_left (eqb n.flow x.flow) (leb n.number x.number) (ne_eqb
 
 module _ (s : Traffic) (long q : ℕ) (kept : all_kept s.rate s.flows ≡ true) where
   -- a packet is what its flow and number say
-  due_same : (x z : Job) → Due s long q x → Due s long q z → z.flow ≡ x.flow → z.number ≡ x.number → z ≡ x
+  pub due_same : (x z : Job) → Due s long q x → Due s long q z → z.flow ≡ x.flow → z.number ≡ x.number → z ≡ x
   due_same x z d e f n =
       e.is ∙ ap (λ (i : ℕ). job s.rate i (flow_at s.flows i) z.number) f ∙ ap (job s.rate x.flow (flow_at s.flows x.flow)) n ∙ sym d.is
 

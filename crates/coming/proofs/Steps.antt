@@ -113,7 +113,7 @@ due_after s long q x y kept d e same less =
 pub next-after : (s : Traffic) (long q : ℕ) (x y : Job) → all_kept s.rate s.flows ≡ true → Due s long q x → NextDue s long q x.flow (x.number + 1) y → x.arrival < y.arrival
 next-after s long q x y kept d n = let from = n.first.from in due_after s long q x y kept d n.due n.same_flow (omega arith)
 
-length-placed : (x : Job) (ns : List Job) → length (placed queue_before x ns) ≡ length ns + 1
+pub length-placed : (x : Job) (ns : List Job) → length (placed queue_before x ns) ≡ length ns + 1
 length-placed x [] = refl
 length-placed x (n ∷ ns) = let rest = length-placed x ns in ⊎_elim (λ e. rw e (omega arith)) (λ e. rw e (omega arith)) (cases_Bool (queue_before x n))
 

@@ -21,6 +21,7 @@ use Rattle.gates.specs.Entries.{names}
 use Rattle.sending.specs.InTime.{InFirstCycle}
 use Rattle.sending.proofs.Packets.{some_period}
 use Rattle.coming.specs.Rising.{In, Rises}
+use Rattle.coming.proofs.Steps.{length-placed}
 use Rattle.coming.proofs.Rising.{all_placed, rises-placed, in_placed, in_placed-new}
 use Rattle.list_check.specs.Queued.{Of, Queued, NamedJoins}
 use Rattle.list_check.proofs.Starting.{number_there}
@@ -203,10 +204,6 @@ pub entry_at : (s : Traffic) (es : List Entry) → Rules s es → (i : ℕ) (d :
 entry_at s es rules i d within =
     let is : es ≡ take i es ++ (get_or es i d ∷ drop (i + 1) es) = sym (take-append-drop i es) ∙ ap (λ (l : List Entry). take i es ++ l) (drop_more es i d within) in
     (is, rules.naming (take i es) (get_or es i d) (drop (i + 1) es) is)
-
-length-placed : (x : Job) (ns : List Job) → length (placed queue_before x ns) ≡ length ns + 1
-length-placed x [] = refl
-length-placed x (n ∷ ns) = let rest = length-placed x ns in ⊎_elim (λ e. rw e (omega arith)) (λ e. rw e (omega arith)) (cases_Bool (queue_before x n))
 
 -- at most one joins
 pub joins_few : (s : Traffic) (e : Entry) (ns ms : List Job) → NamedJoins s e ns ms → length ms ≤ length ns + 1

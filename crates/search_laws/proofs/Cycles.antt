@@ -9,7 +9,7 @@ use Rattle.traffic.specs.declared.rate.Rate.{Rate}
 use Rattle.traffic.specs.declared.flow.Flow.{Flow}
 use Rattle.traffic.specs.declared.packet.Job.{Job}
 use Rattle.traffic.specs.Pattern.{turn, mandatory_at}
-use Rattle.traffic.specs.Packets.{Traffic, no_flow, flow_at, job}
+use Rattle.traffic.specs.Packets.{no_flow, flow_at}
 use Rattle.traffic.specs.Orders.{queue_before}
 use Rattle.traffic.specs.Behind.{queue_asym}
 use Rattle.traffic.proofs.Total.{queue_order}
@@ -25,6 +25,7 @@ use Rattle.coming.proofs.Dues.{flow_at_getD, due_bounds}
 use Rattle.coming.specs.Rising.{Rises}
 use Rattle.coming.proofs.Arrivals.{packets_due, packets_rise}
 use Rattle.coming.proofs.Steps.{not_sooner}
+use Rattle.coming.proofs.Lefts.{due_same}
 use Rattle.search_laws.specs.Laws.{Rising, WaitsIn, Unlike, Distinct, Given}
 use Rattle.search_laws.specs.Sheets.{mandatory_packets, served_cycle}
 use Rattle.search_laws.proofs.Lists.{all_both}
@@ -87,16 +88,11 @@ late : (xs : List Job) → AllByRecursion (λ x. 0 ≤ x.arrival) xs
 late [] = tt
 late (x ∷ xs) = (omega arith, late xs)
 
--- a packet is what its flow and number say
-due_same : (t : Traffic) (long q : ℕ) (x z : Job) → Due t long q x → Due t long q z → z.flow ≡ x.flow → z.number ≡ x.number → z ≡ x
-due_same t long q x z d e f n =
-    e.is ∙ ap (λ (i : ℕ). job t.rate i (flow_at t.flows i) z.number) f ∙ ap (job t.rate x.flow (flow_at t.flows x.flow)) n ∙ sym d.is
-
 distinct : (s : Sheet) (q : ℕ) (xs : List Job) → AllByRecursion (Due (traffic_of s) s.cycle q) xs → Rises queue_before xs → Distinct xs
 distinct s q [] d r = tt
 distinct s q (x ∷ xs) d r = (
   all_both (Due (traffic_of s) s.cycle q) (λ (y : Job). queue_before x y ≡ true) (Unlike x)
-      (λ y e before flow number. both_ways (queue_before x x) (queue_order.never x) (subst (λ (z : Job). queue_before x z ≡ true) (due_same (traffic_of s) s.cycle q x y d.0 e (sym flow) (sym number)) before))
+      (λ y e before flow number. both_ways (queue_before x x) (queue_order.never x) (subst (λ (z : Job). queue_before x z ≡ true) (due_same (traffic_of s) s.cycle q s.kept x y d.0 e (sym flow) (sym number)) before))
       xs d.1 r.0,
   distinct s q xs d.1 r.1,
 )
