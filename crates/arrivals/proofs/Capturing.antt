@@ -1,11 +1,11 @@
 -- A table captured record by record.
 use Rattle.std.proofs.Common.{◌≡◌, ℕ, ◌+◌, ◌-◌, ◌<◌, ◌≤◌, true, false, leb, List, [], ◌∷◌, ◌++◌, length, get_or, take, drop, sym, refl, ap, ◌∙◌, arith}
-use Rattle.std.proofs.lemmas.List.{take_more, length-take-le, length-drop, get_or-take, get_or-drop}
+use Rattle.std.proofs.lemmas.List.{take_all, take_more, take-take, length-take, length-take-le, length-drop, get_or-take, get_or-drop}
 use Rattle.std.proofs.lemmas.Bool.{and_parts, and_from, and_left, and_right, le-leb, lt-leb}
 use Rattle.traffic.specs.declared.packet.Packet.{Packet}
 use Rattle.traffic.specs.Orders.{delivered_before}
 use Rattle.arrivals.specs.Sources.{rises, Rises}
-use Rattle.arrivals.specs.Captures.{capturable}
+use Rattle.arrivals.specs.Captures.{capturable, FirstFault}
 use Rattle.arrivals.proofs.Rising.{Before, rises_push, falls_push}
 
 pub one_record : (ps : List Packet) → capturable (take 1 ps) ≡ true
@@ -19,9 +19,6 @@ module _ (ps : List Packet) (place : ℕ) (low : 2 ≤ place) (rest : List Packe
 
   long : length (take place ps) ≡ place
   long = length-take-le place ps within
-
-  pub too_many : 4096 < place → capturable (take place ps) ≡ false
-  too_many most = and_left (leb (length (take place ps)) 4096) (rises (take place ps)) (lt-leb _ _ (omega (arith, long)))
 
   -- the window shows both
   module _ (window : List Packet) (shows : window ≡ take 2 rest) (d : Packet) where
@@ -56,3 +53,32 @@ module _ (ps : List Packet) (place : ℕ) (low : 2 ≤ place) (rest : List Packe
 -- where fewer than two records are left from there on, the table ends in front of the place
 pub ends : (ps rest : List Packet) (place : ℕ) → 2 ≤ place → rest ≡ drop (place - 2) ps → length rest < 2 → length ps ≤ place - 1
 ends ps rest place low left few = omega (arith, ap length left, length-drop (place - 2) ps)
+
+-- a fault among the first 4,096 records is one of the table
+pub front_fault : (ps : List Packet) (place : ℕ) → FirstFault (take 4096 ps) place → FirstFault ps place
+front_fault ps place f =
+    let most = f.within in
+    let size = length-take 4096 ps in
+    let before : take (place - 1) (take 4096 ps) ≡ take (place - 1) ps = take-take (place - 1) 4096 ps (omega arith) in
+    let after : take place (take 4096 ps) ≡ take place ps = take-take place 4096 ps (omega arith) in
+    record {
+      counts = f.counts;
+      within = omega arith;
+      before = sym (ap capturable before) ∙ f.before;
+      after = sym (ap capturable after) ∙ f.after;
+    }
+
+-- one record too many behind those that can be captured
+pub too_many : (ps : List Packet) → 4096 < length ps → capturable (take 4096 ps) ≡ true → FirstFault ps 4097
+too_many ps more h =
+    let long = length-take-le 4097 ps (omega arith) in
+    record {
+      counts = omega arith;
+      within = omega arith;
+      before = h;
+      after = and_left (leb (length (take 4097 ps)) 4096) (rises (take 4097 ps)) (lt-leb _ _ (omega (arith, long)));
+    }
+
+-- where fewer than two of the first records are left from the place on, all of them can be captured
+pub front_whole : (ps rest : List Packet) (place : ℕ) → 2 ≤ place → rest ≡ drop (place - 2) (take 4096 ps) → length rest < 2 → capturable (take (place - 1) (take 4096 ps)) ≡ true → capturable (take 4096 ps) ≡ true
+front_whole ps rest place low left few h = sym (ap capturable (take_all (place - 1) (take 4096 ps) (ends (take 4096 ps) rest place low left few))) ∙ h

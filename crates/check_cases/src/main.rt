@@ -7,7 +7,7 @@ use list_check::acceptance::check;
 use refusal::{Refusal, refusal_text};
 use sheet::refusals::sheet_refusal;
 use sheet::sheet::Sheet;
-use std::alloc::Global;
+use std::alloc::{AllocError, Global};
 use std::fs;
 
 // An entry by its line: gates, length, flow and number. No `FromStr`: that impl could only stand in the crate of `Entry`.
@@ -34,7 +34,7 @@ fn list_of(heap: Global, text: &str) -> anyhow::Result<Vec<Entry>> {
 fn told(heap: Global, text: &[u8], list: &[Entry]) -> anyhow::Result<String> {
     let mut sheet = Sheet::new(heap);
     if let Err(fault) = sheet.read(text) {
-        let refusal = sheet_refusal(fault).context("memory is short")?;
+        let refusal = sheet_refusal(fault).ok_or(AllocError)?;
         return Ok(refusal_text(heap, refusal)?);
     }
     match check(&sheet, list) {

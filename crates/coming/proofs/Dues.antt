@@ -1,11 +1,11 @@
 -- A flow's next packet. Assumes nothing.
-use Rattle.std.proofs.Common.{◌≡◌, ℕ, zero, suc, ◌+◌, ◌-◌, ◌*◌, ◌<◌, ◌≤◌, Bool, true, false, cond, leb, List, length, get_or, Some, None, sym, refl, ap, subst, ⊎_elim, mul-le-mul_right, mul-le-mul_left, arith}
-use Rattle.std.proofs.lemmas.Bool.{cases_Bool, cases_lt, both_ways, eqb-true, cond_both, and_from, le-leb}
+use Rattle.std.proofs.Common.{◌≡◌, ℕ, zero, suc, ◌+◌, ◌-◌, ◌*◌, ◌<◌, ◌≤◌, Bool, true, false, cond, List, length, get_or, Some, None, sym, refl, ap, subst, ⊎_elim, mul-le-mul_right, mul-le-mul_left, arith}
+use Rattle.std.proofs.lemmas.Bool.{cases_Bool, cases_lt, both_ways, eqb-true, cond_both}
 use Rattle.traffic.specs.declared.rate.Rate.{Rate}
 use Rattle.traffic.specs.declared.rate.Rate.TheVariants.{Mbit10, Mbit100, Mbit1000}
 use Rattle.traffic.specs.declared.flow.Flow.{Flow}
 use Rattle.traffic.specs.declared.packet.Job.{Job}
-use Rattle.traffic.specs.Packets.{Traffic, no_flow, flow_at, listed, arrival, queue_of, job}
+use Rattle.traffic.specs.Packets.{Traffic, no_flow, flow_at, arrival, queue_of, job}
 use Rattle.traffic.specs.Wire.{wire_time}
 use Rattle.traffic.specs.Pattern.{mandatory_at}
 use Rattle.sheet.specs.Ranges.{all_kept}
@@ -91,6 +91,3 @@ pub kept_flow : (s : Traffic) (i : ℕ) → all_kept s.rate s.flows ≡ true →
 kept_flow s i kept some listed =
     let within : i - 1 < length s.flows = omega arith in
     subst (Ranged s.rate) (sym (flow_at_getD s.flows i some)) (ranged_at s.rate s.flows (i - 1) kept within)
-
-pub is_listed : (fs : List Flow) (i : ℕ) → 0 < i → i ≤ length fs → listed fs i ≡ true
-is_listed fs i some most = and_from (leb 1 i) (leb i (length fs)) (le-leb 1 i some) (le-leb i (length fs) most)

@@ -1,6 +1,7 @@
 -- What is left of a queue's packets, from the next packet of each flow on. Assumes nothing.
-use Rattle.std.proofs.Common.{◌≡◌, ℕ, zero, suc, ◌+◌, ◌<◌, ◌≤◌, Bool, true, false, cond, ◌||◌, eqb, leb, ◌⊎◌, List, [], ◌∷◌, length, take, sym, refl, ap, ◌∙◌, subst, inl, inr, ⊎_elim, arith}
+use Rattle.std.proofs.Common.{◌≡◌, ℕ, zero, suc, ◌+◌, ◌<◌, ◌≤◌, Bool, true, false, cond, ◌||◌, eqb, leb, ◌⊎◌, List, [], ◌∷◌, length, take, Some, None, Option, MatchOption, sym, refl, ap, ◌∙◌, subst, inl, inr, ⊎_elim, arith}
 use Rattle.std.specs.List.{AllByRecursion, slice_get}
+use Rattle.std.specs.Iterator.{MakesProgress, item_count}
 use Rattle.std.proofs.ByRecursion.{All-weaker}
 use Rattle.std.proofs.lemmas.Bool.{cases_Bool, cases_eq, cases_lt, cases_order, both_ways, and_parts, and_from, and_left, and_right, or_left, or_cases, or_parts, not-true, not_from_false, eq-eqb, ne_eqb, eqb-true, le-leb, lt-leb, leb-true}
 use Rattle.traffic.specs.declared.packet.Job.{Job}
@@ -203,6 +204,12 @@ module _ (s : Traffic) (long q : ℕ) (kept : all_kept s.rate s.flows ≡ true) 
   pub left_none : left s long q [] ≡ []
   left_none = kept_none (to_come []) (packets_before s q long) (λ x. refl)
 
+  -- a step of the next packets is one of what is left
+  pub left_steps : (r : Option Job) (ns ms : List Job) → Lined s long q ns → MatchOption r ((ns ≡ []) × (ms ≡ [])) (λ x. Stepped s long q x ns ms) →
+      MatchOption r ((left s long q ns ≡ []) × (left s long q ms ≡ [])) (λ x. left s long q ns ≡ x ∷ left s long q ms)
+  left_steps None ns ms l none = (ap (left s long q) none.0 ∙ left_none, ap (left s long q) none.1 ∙ left_none)
+  left_steps (Some x) ns ms l step = left_step x ns ms l step
+
   -- once the first packets of all flows have joined, all is left
   built_covers : (n : ℕ) (ns : List Job) (z : Job) → Built s long q n ns → Due s long q z → z.flow ≤ n → to_come ns z ≡ true
   built_covers zero ns z b d h = let named = d.named in absurd (omega arith)
@@ -221,3 +228,8 @@ same_first [] [] e = refl
 same_first [] (y ∷ ys) e = cc
 same_first (x ∷ xs) [] e = cc
 same_first (x ∷ xs) (y ∷ ys) e = cc
+
+-- an iterator that gives the first of a list has fewer left
+pub progress : (r : Option Job) (xs ys : List Job) → MatchOption r ((xs ≡ []) × (ys ≡ [])) (λ x. xs ≡ x ∷ ys) → MakesProgress (λ _. Unit {0}) (item_count (λ q. q)) xs r ys
+progress None xs ys e = record { on = λ _. tt; keeps = tt; rests = λ _. tt }
+progress (Some x) xs ys e = let shorter = ap length e in record { on = λ _. (tt, tt, omega arith); keeps = tt; rests = λ _. tt }

@@ -3,7 +3,7 @@ use Rattle.std.proofs.Common.{◌≡◌, Bool, true, false, cond, not, List, [],
 use Rattle.std.specs.List.{AllByRecursion}
 use Rattle.std.proofs.ByRecursion.{All-append, All-weaker}
 use Rattle.std.proofs.lemmas.Bool.{cases_Bool, both_ways, not-false}
-use Rattle.table.specs.Order.{placed}
+use Rattle.table.specs.Order.{before_each, placed, placed_last}
 use Rattle.coming.specs.Rising.{In, Rises}
 
 pub all_in : {X : Type 0} (P : X → Type 0) (x : X) (xs : List X) → AllByRecursion P xs → In x xs → P x
@@ -44,6 +44,14 @@ all_placed P b x (y ∷ ys) p ps =
     (λ e. subst (AllByRecursion P) (sym (ap (λ (t : Bool). cond t (x ∷ (y ∷ ys)) (y ∷ placed b x ys)) e)) (p, ps))
     (λ e. subst (AllByRecursion P) (sym (ap (λ (t : Bool). cond t (x ∷ (y ∷ ys)) (y ∷ placed b x ys)) e)) (ps.0, all_placed P b x ys p ps.1))
     (cases_Bool (b x y))
+
+pub all_placed_last : {X : Type 0} (P : X → Type 0) (b : X → X → Bool) (x : X) (xs : List X) → P x → AllByRecursion P xs → AllByRecursion P (placed_last b x xs)
+all_placed_last P b x [] p ps = (p, tt)
+all_placed_last P b x (y ∷ ys) p ps =
+    ⊎_elim
+    (λ e. subst (AllByRecursion P) (sym (ap (λ (t : Bool). cond t (x ∷ (y ∷ ys)) (y ∷ placed_last b x ys)) e)) (p, ps))
+    (λ e. subst (AllByRecursion P) (sym (ap (λ (t : Bool). cond t (x ∷ (y ∷ ys)) (y ∷ placed_last b x ys)) e)) (ps.0, all_placed_last P b x ys p ps.1))
+    (cases_Bool (before_each b x (y ∷ ys)))
 
 module _ {X : Type 0} (b : X → X → Bool) (never : (x : X) → b x x ≡ false) (chained : (x y z : X) → b x y ≡ true → b y z ≡ true → b x z ≡ true) where
   -- one more, where the order decides between it and the others

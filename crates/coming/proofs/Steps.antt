@@ -116,8 +116,3 @@ next-after s long q x y kept d n = let from = n.first.from in due_after s long q
 pub length-placed : (x : Job) (ns : List Job) → length (placed queue_before x ns) ≡ length ns + 1
 length-placed x [] = refl
 length-placed x (n ∷ ns) = let rest = length-placed x ns in ⊎_elim (λ e. rw e (omega arith)) (λ e. rw e (omega arith)) (cases_Bool (queue_before x n))
-
--- at most one joins
-pub joins_few : (s : Traffic) (long q i j : ℕ) (ns ms : List Job) → Joins s long q i j ns ms → length ms ≤ length ns + 1
-joins_few s long q i j ns ms (inl none) = let same = ap length none.1 in omega arith
-joins_few s long q i j ns ms (inr (y, (due, is))) = let same = ap length is in omega (arith, length-placed y ns)

@@ -1,5 +1,5 @@
 -- The packets of a queue that are still to come. Assumes nothing.
-use Rattle.std.specs.Prelude.{◌≡◌, ℕ, zero, suc, ◌+◌, ◌<◌, ◌≤◌, Bool, true, ◌⊎◌, List, [], ◌∷◌, length, ◌==◌}
+use Rattle.std.specs.Prelude.{◌≡◌, ℕ, zero, suc, ◌+◌, ◌<◌, ◌≤◌, Bool, true, ◌⊎◌, List, [], ◌∷◌, length, take, ◌==◌}
 use Rattle.std.specs.List.{AllByRecursion}
 use Rattle.traffic.specs.declared.flow.Flow.{Flow}
 use Rattle.traffic.specs.declared.packet.Job.{Job}
@@ -7,6 +7,7 @@ use Rattle.traffic.specs.Sorts.{FirstFrom}
 use Rattle.traffic.specs.Packets.{Traffic, flow_at, arrival, queue_of, job}
 use Rattle.traffic.specs.Orders.{queue_before}
 use Rattle.table.specs.Order.{in_order, placed}
+use Rattle.coming.specs.declared.coming.Queue.{Queue}
 
 -- packet j of the flow waits in queue q
 abbrev pub waits_in : ℕ → Flow → ℕ → Bool
@@ -30,6 +31,10 @@ pub record NextDue (s : Traffic) (long q i j : ℕ) (x : Job) : Type 0 where
 -- flow i has no such packet from number j on
 abbrev pub NoneDue : Traffic → ℕ → ℕ → ℕ → ℕ → Type 0
 NoneDue s long q i j = (n : ℕ) → j ≤ n → waits_in q (flow_at s.flows i) n ≡ true → long ≤ arrival (flow_at s.flows i) n
+
+-- the next packets that a queue holds
+abbrev pub held : Queue → List Job
+held c = take c.len c.next
 
 -- the packets to come after the next one of flow i from number j on has joined, if there is one
 abbrev pub Joins : Traffic → (long q i j : ℕ) → List Job → List Job → Type 0
@@ -60,3 +65,8 @@ pub record Lined (s : Traffic) (long q : ℕ) (ns : List Job) : Type 0 where
   pub due : AllByRecursion (λ n. Due s long q n) ns
   pub ordered : in_order queue_before ns ≡ true
   pub once : Once ns
+
+-- what a queue holds are such packets
+pub record Comes (s : Traffic) (long q : ℕ) (c : Queue) : Type 0 where
+  pub few : c.len ≤ 64
+  pub lined : Lined s long q (held c)

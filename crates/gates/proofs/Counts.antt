@@ -1,9 +1,9 @@
 -- How many digits a number has.
-use Rattle.std.proofs.Common.{◌≡◌, ℕ, ◌+◌, ◌*◌, ◌%◌, ◌^◌, ◌<◌, ◌≤◌, length, decimal, Option, Some, None, IfSome, IfNone, unwrap_or, ap, ⊎_elim, pow-suc, add-one, arith}
+use Rattle.std.proofs.Common.{◌≡◌, ℕ, ◌+◌, ◌%◌, ◌^◌, ◌<◌, ◌≤◌, length, decimal, ⊎_elim, pow-suc, add-one, arith}
 use native.Mathlib.Nat.{pow-le-pow_right}
 use Rattle.std.proofs.lemmas.List.{length_push}
 use Rattle.std.proofs.lemmas.Bool.{cases_lt}
-use Rattle.std.proofs.lemmas.Fmt.{decimal_by_steps, length-decimal-le, decimal_digit}
+use Rattle.std.proofs.lemmas.Fmt.{decimal_by_steps, length-decimal-le}
 
 -- as many digits as a number has can write it
 pub lt_pow_digits : (n : ℕ) → n < 2 ^ 64 → n < 10 ^ length (decimal n)
@@ -23,8 +23,3 @@ count-is k n small low high =
     absurd (omega arith))
     (λ (h : k + 1 ≤ length (decimal n)). omega arith)
     (cases_lt (length (decimal n)) (k + 1))
-
--- one digit more than the power of ten that is reached
-pub count_from_power : (n : ℕ) (power : Option ℕ) → n < 2 ^ 64 → IfNone power (n ≡ 0) → IfSome power (λ k. 10 ^ k ≤ n) → IfSome power (λ k. n < 10 * 10 ^ k) → unwrap_or power 0 + 1 ≡ length (decimal n)
-count_from_power n None small none low high = let one = ap length (decimal_digit n (omega arith)) in omega arith
-count_from_power n (Some k) small none low high = count-is k n small low (rw (add-one, pow-suc 10 k) (omega arith))

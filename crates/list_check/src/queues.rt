@@ -10,7 +10,7 @@ ghost use Rattle.list_check.specs.Verdict.{LateAt};
 use crate::named::named;
 use crate::rules::Lawful;
 use crate::service::{Service, due_first, is_past};
-use coming::coming::Queue;
+use coming::coming::Packets;
 use traffic::packet::Job;
 
 // Looks through the packets of a queue for late ones: the one that is due first, of these and of the one known before.
@@ -46,7 +46,7 @@ pub(crate) fn first_late(lawful: Lawful) -> Option<Job>
     let optional = named(lawful);
     let mut late = look_at(lawful, optional.records().iter().copied(), None);
     for queue in 1..8 {
-        late = look_at(lawful, Queue::of(lawful.sheet, queue), late);
+        late = look_at(lawful, Packets::of(lawful.sheet, queue), late);
     }
     late
 }

@@ -28,6 +28,17 @@ by_then t (x ∷ xs) p e = go (leb x.arrival t) refl e
     go true b h = let k : x ≡ p = cc in subst (λ (y : Packet). y.arrival ≤ t) k (leb-true x.arrival t b)
     go false b h = let z : ◌≡◌ {A = ℕ} 0 1 = cc in absurd (omega arith)
 
+-- none has
+pub none_arrived : (s : Traffic) (es : List Entry) (t : ℕ) (c : Counts) (last : Option Packet) (st : State Packet) (xs : List Packet) → None ≡ arrived_head t xs →
+    takes s es t c last st xs ≡ record { state = st; last = last; counts = c; left = behind_arrived t xs }
+none_arrived s es t c last st [] e = refl
+none_arrived s es t c last st (x ∷ xs) e = go (leb x.arrival t) e
+  where
+    go : (b : Bool) → None ≡ cond b (Some x) None →
+        cond {A = Taken} b (takes s es t (tallied s es t last st x c) (Some x) (take_in s es t last st x) xs) (record { state = st; last = last; counts = c; left = x ∷ xs }) ≡ record { state = st; last = last; counts = c; left = cond {A = List Packet} b xs (x ∷ xs) }
+    go true h = let z : ◌≡◌ {A = ℕ} 0 1 = cc in absurd (omega arith)
+    go false h = refl
+
 -- one packet after another
 pub takes-next : (s : Traffic) (es : List Entry) (t : ℕ) (c : Counts) (last : Option Packet) (st : State Packet) (p : Packet) (xs : List Packet) → p.arrival ≤ t →
     takes s es t c last st (p ∷ xs) ≡ takes s es t (tallied s es t last st p c) (Some p) (take_in s es t last st p) xs

@@ -1,13 +1,13 @@
 -- The third step, case by case. Assumes nothing.
-use Rattle.std.proofs.Common.{◌≡◌, ℕ, ◌+◌, ◌≤◌, Bool, true, false, cond, eqb, leb, List, [], ◌∷◌, map, drop, Some, None, Option, sym, refl, ap, ◌∙◌, subst}
+use Rattle.std.proofs.Common.{◌≡◌, ℕ, zero, suc, ◌+◌, ◌^◌, ◌<◌, ◌≤◌, Bool, true, false, cond, eqb, leb, List, [], ◌∷◌, map, drop, Some, None, Option, sym, refl, ap, ◌∙◌, subst, arith}
 use Rattle.std.specs.Option.{is_some}
 use Rattle.std.specs.List.{slice_get, list_all}
-use Rattle.std.proofs.lemmas.Bool.{and_parts, and_right, and_from, le-leb, cond-true, cond-false}
+use Rattle.std.proofs.lemmas.Bool.{and_parts, and_left, and_right, and_from, le-leb, lt-leb, cond-true, cond-false}
 use Rattle.traffic.specs.declared.packet.Packet.{Packet}
 use Rattle.traffic.specs.declared.packet.Job.{Job}
 use Rattle.traffic.specs.Packets.{Traffic, packet_of}
 use Rattle.gates.specs.declared.entry.Entry.{Entry}
-use Rattle.gates.specs.Open.{open_at, stays_open}
+use Rattle.gates.specs.Open.{alone_below, gates_at, open_at, stays_open}
 use Rattle.sending.specs.Sheet.{wire, mandatory}
 use Rattle.sending.specs.Port.{State, Turn, idle, send, serve}
 use Rattle.sending.specs.Calls.{of_sheet, one_start}
@@ -19,7 +19,31 @@ use Rattle.port.specs.Station.{state_of, sheet_of, third_step, Sent}
 use Rattle.port.specs.Quiet.{fitting, can_start}
 use Rattle.port.proofs.Lining.{as_sheet-is, left_waiting}
 
+-- there are eight gates
+low_gate : (n g q : ℕ) → alone_below n g ≡ Some q → q < n
+low_gate zero g q e = let z : ◌≡◌ {A = ℕ} 0 1 = cc in absurd (omega arith)
+low_gate (suc n) g q e = go (eqb g (2 ^ n)) e (low_gate n g q)
+  where
+    go : (b : Bool) → cond b (Some n) (alone_below n g) ≡ Some q → (alone_below n g ≡ Some q → q < n) → q < suc n
+    go true h ih = let k : n ≡ q = cc in omega arith
+    go false h ih = let k = ih h in omega arith
+
+pub open_low : (es : List Entry) (o q : ℕ) → open_at es o ≡ Some q → q < 8
+open_low es o q e = low_gate 8 (gates_at es o) q e
+
 module _ (s : Traffic) (es : List Entry) (t o : ℕ) where
+  busy_serve : (q : ℕ) (x : State Packet) (ps : List Packet) → t < x.free → serve (wire s) (λ e. stays_open es q o e) t q x ps ≡ idle x
+  busy_serve q x [] l = refl
+  busy_serve q x (p ∷ ps) l = cond-false _ _ _ (and_left (leb x.free t) (stays_open es q o (wire s p)) (lt-leb x.free t l))
+
+  -- the wire is taken
+  pub busy : (x : State Packet) → t < x.free → third_step s es t o x ≡ idle x
+  busy x l = go (open_at es o)
+    where
+      go : (g : Option ℕ) → send (wire s) (λ q e. stays_open es q o e) t g x ≡ idle x
+      go None = refl
+      go (Some q) = busy_serve q x (x.waiting q) l
+
   -- no gate is open
   pub shut : (x : State Packet) → open_at es o ≡ None → third_step s es t o x ≡ idle x
   shut x e = ap (λ (g : Option ℕ). send (wire s) (λ q e. stays_open es q o e) t g x) e
@@ -114,6 +138,9 @@ module _ (es : List Entry) (t o : ℕ) (entry : Station) where
           at_head : (h : Option Job) → slice_get (queue_at entry.lanes q) 0 ≡ h → fitting es q o h ≡ None → third_step s es t o (state_of entry) ≡ idle (state_of entry)
           at_head None i c = vacant s es t o (state_of entry) q e (none_first (queue_at entry.lanes q) i)
           at_head (Some w) i c = unfit s es t o (state_of entry) q (packet_of w) (drop 1 (waiting_of entry.lanes q)) e (line q w i) (ap (stays_open es q o) (sym (wire-is q w i)) ∙ unfitting (stays_open es q o w.wire) (q, w) c)
+
+  pub sent_busy : t < entry.free → Sent es t o None entry entry
+  sent_busy l = let e = busy s es t o (state_of entry) l in record { sheet = refl; start = ap (λ (x : Turn Packet). x.start) (sym e); state = ap (λ (x : Turn Packet). x.after) (sym e); counts = refl; last = refl }
 
   pub sent_nothing : can_start entry.lanes es o (open_at es o) ≡ None → Sent es t o None entry entry
   sent_nothing c = let e = stuck c in record { sheet = refl; start = ap (λ (x : Turn Packet). x.start) (sym e); state = ap (λ (x : Turn Packet). x.after) (sym e); counts = refl; last = refl }

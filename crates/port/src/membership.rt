@@ -20,9 +20,13 @@ pub(crate) fn job_on_sheet(sheet: &Sheet, packet: &Packet) -> Option<Job>
     requires { packet.now.arrival ≤ 4000000000000000000 }
     ensures { result ≡ (if of_sheet (traffic_of sheet.now) packet.now then Some (job_of (traffic_of sheet.now) packet.now) else None) }
 {
+    // Number 0 is told first: all that `job` works out would be for nothing.
+    if packet.number == 0 {
+        return None;
+    }
     sheet
         .job(packet.flow, packet.number)
-        .filter(|job| packet.number > 0 && job.arrival == packet.arrival)
+        .filter(|job| job.arrival == packet.arrival)
 }
 
 // Does the packet come after the one taken before it?

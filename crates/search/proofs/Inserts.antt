@@ -1,12 +1,12 @@
 -- A window among others that stand one after the other. Assumes nothing.
 use Rattle.std.proofs.Common.{◌≡◌, ℕ, zero, suc, ◌+◌, ◌<◌, ◌≤◌, true, false, not, ltb, List, [], ◌∷◌, ◌++◌, length, take, drop, Ok, Err, Result, ◌⊎◌, sym, refl, inl, inr, ap, ◌∙◌, subst, ⊎_elim, arith}
-use Rattle.std.specs.List.{AllByRecursion}
+use Rattle.std.specs.List.{AllByRecursion, HoldsAt}
 use Rattle.std.proofs.ByRecursion.{All-append, All-take, All-drop}
 use Rattle.std.proofs.lemmas.List.{length-take-le, length-append, length-drop}
 use Rattle.std.proofs.lemmas.Bool.{cases_Bool, and_from, le-ltb, lt-ltb, ltb-true, ltb-false}
 use Rattle.std.proofs.lemmas.Bool.Decides.{nat_tests}
 use Rattle.table.specs.Order.{in_order, none_before, placed, placed_last}
-use Rattle.table.specs.Calls.{Put}
+use Rattle.table.specs.Calls.{Put, PlaceFor}
 use Rattle.table.proofs.Places.{placed_last-is}
 use Rattle.search.specs.declared.window.Window.{Window}
 use Rattle.search.specs.Windows.{Fits, Apart, end, last_end, first_start, latest, starts_before}
@@ -55,6 +55,28 @@ placed-there a b (suc i) w (v ∷ vs) h front back =
     let late : ltb w.start v.start ≡ false = le-ltb w.start v.start (omega arith) in
     rw late (ap (λ (zs : List Window). v ∷ zs) (placed-there (end v) b i w vs h.1 front back))
 
+-- those behind its place start after it
+later_each : (a b : ℕ) (w : Window) (ws : List Window) → Apart a ws b → w.start < a → (k : ℕ) → k < length ws → HoldsAt (λ v. starts_before w v ≡ true) ws k
+later_each a b w [] h low k u = absurd (omega arith)
+later_each a b w (v ∷ vs) h low zero u = let here = h.0 in λ d. lt-ltb w.start v.start (omega arith)
+later_each a b w (v ∷ vs) h low (suc k) u = let here = h.0 in later_each (end v) b w vs h.1 (omega arith) k (omega arith)
+
+leads_place : (a b i : ℕ) (w : Window) (ws : List Window) → Apart a ws b → w.start < first_start (drop i ws) (w.start + 1) → (k : ℕ) → i ≤ k → k < length ws → HoldsAt (λ v. starts_before w v ≡ true) ws k
+leads_place a b i w [] h back k low u = absurd (omega arith)
+leads_place a b zero w (v ∷ vs) h back zero low u = λ d. lt-ltb w.start v.start back
+leads_place a b zero w (v ∷ vs) h back (suc k) low u = later_each (end v) b w vs h.1 (omega arith) k (omega arith)
+leads_place a b (suc i) w (v ∷ vs) h back zero low u = absurd (omega arith)
+leads_place a b (suc i) w (v ∷ vs) h back (suc k) low u = leads_place (end v) b i w vs h.1 back k (omega arith) (omega arith)
+
+-- the one in front of its place does not
+follows_place : (a b i : ℕ) (w : Window) (ws : List Window) → Apart a ws b → i ≤ length ws → last_end a (take i ws) ≤ w.start → (k : ℕ) → k + 1 ≡ i → HoldsAt (λ v. starts_before w v ≡ false) ws k
+follows_place a b zero w ws h within front k e = absurd (omega arith)
+follows_place a b (suc i) w [] h within front k e = absurd (omega arith)
+follows_place a b (suc i) w (v ∷ vs) h within front zero e =
+    let on = apart_onward (end v) b (take i vs) (apart_take (end v) b i vs h.1) in
+    λ d. le-ltb w.start v.start (omega arith)
+follows_place a b (suc i) w (v ∷ vs) h within front (suc k) e = follows_place (end v) b i w vs h.1 (omega arith) front k (omega arith)
+
 window_asym : (x y : Window) → starts_before x y ≡ true → starts_before y x ≡ false
 window_asym x y h = grind (arith, nat_tests)
 
@@ -95,6 +117,14 @@ start_before w (v ∷ vs) some h = omega arith
 
 pub goes_there : (i : ℕ) (w : Window) (ws : List Window) → Apart 0 ws latest → GoesAt i w ws → inserted w ws ≡ inserted_at i w ws
 goes_there i w ws apart goes = placed-there 0 latest i w ws apart goes.front (start_before w (drop i ws) goes.fits.some_wire goes.back)
+
+-- the place that a window goes to is its place in the table
+pub goes_place : (i : ℕ) (w : Window) (ws : List Window) → Apart 0 ws latest → GoesAt i w ws → PlaceFor starts_before w ws i
+goes_place i w ws apart goes = record {
+  within = goes.within;
+  follows = follows_place 0 latest i w ws apart goes.within goes.front;
+  leads = leads_place 0 latest i w ws apart (start_before w (drop i ws) goes.fits.some_wire goes.back);
+}
 
 -- what is known of the memory after one window more
 pub inserted_tally : (long i e more n entries : ℕ) (ms ns : List Window) (w : Window) →

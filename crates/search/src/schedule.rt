@@ -11,7 +11,7 @@ use crate::window::Window;
 use gates::entry::{Entry, MOST_ENTRIES};
 use std::marker::Model;
 use table::full::Full;
-use table::table::put;
+use table::table::put_at;
 
 // The windows at the front of the memory, how many entries the list drawn from them has, and how long the cycle is.
 // Clauses see the windows and the cycle.
@@ -84,7 +84,7 @@ impl<'w> Schedule<'w> {
             return Err(Full);
         }
         let count = self.count;
-        self.count = put(self.memory, count, w)?;
+        self.count = put_at(self.memory, count, place, w)?;
         self.entries = entries;
         Ok(())
     }

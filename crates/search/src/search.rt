@@ -2,7 +2,7 @@
 ghost use Rattle.std.specs.Prelude.{◌≡◌, ℕ, ◌<◌, ◌≤◌, length, replicate, Err, MatchResult};
 ghost use Rattle.search.specs.Search.{most_entries, planned_list};
 ghost use Rattle.search.specs.Packets.{cycle_packets};
-ghost use Rattle.search.specs.Memory.{Planned, Searched};
+ghost use Rattle.search.specs.Memory.{no_entry, no_window, Planned, Searched};
 
 use crate::fault::SearchFault;
 use crate::schedule::Schedule;
@@ -12,6 +12,39 @@ use crate::walk::walk;
 use crate::window::Window;
 use gates::entry::{Entry, MOST_ENTRIES};
 use sheet::sheet::Sheet;
+use traffic::packet::Job;
+
+// A window of zeros. A constant, which a derived `Default` is not: of it the two loops below are filled at once.
+const NO_WINDOW: Window = Window {
+    start: 0,
+    packet: Job {
+        flow: 0,
+        number: 0,
+        queue: 0,
+        arrival: 0,
+        deadline: 0,
+        wire: 0,
+        weight: 0,
+    },
+};
+
+// All entries zero. Not `fill`, here and for windows: it clones each record, and takes many times as long.
+fn clear_entries(list: &mut [Entry])
+    ensures { list.new ≡ replicate (length list.old) no_entry }
+{
+    for entry in list.iter_mut() {
+        *entry = Entry::ZERO;
+    }
+}
+
+// All windows zero.
+fn clear_windows(windows: &mut [Window])
+    ensures { windows.new ≡ replicate (length windows.old) no_window }
+{
+    for window in windows.iter_mut() {
+        *window = NO_WINDOW;
+    }
+}
 
 // Walk, trials and drawing.
 fn planned<O: ServingOrder>(
@@ -50,7 +83,7 @@ pub fn search<O: ServingOrder>(
     }
     let found = planned(sheet, order, list, windows);
     let drawn = found.unwrap_or(0);
-    list[drawn..].fill(Entry::ZERO);
-    windows.fill(Window::default());
+    clear_entries(&mut list[drawn..]);
+    clear_windows(windows);
     found
 }

@@ -10,7 +10,7 @@ ghost use Rattle.search.specs.Trials.{Passed, HasRoom, NoRoom, Tried};
 
 use crate::schedule::Schedule;
 use crate::window::Window;
-use coming::coming::Queue;
+use coming::coming::Packets;
 use sheet::sheet::Sheet;
 use traffic::packet::Job;
 
@@ -109,7 +109,7 @@ pub(crate) fn admit(sheet: &Sheet, schedule: &mut Schedule)
     ensures { (schedule.new.windows ≡ admitted sheet.now.cycle (cycle_packets sheet.now).optional schedule.old.windows) × (schedule.new.long ≡ sheet.now.cycle) }
 {
     let mut trials = Trials { last: 0, passed: 0 };
-    for job in Queue::of(sheet, 0) {
+    for job in Packets::of(sheet, 0) {
         trials = try_packet(schedule, trials, job);
     }
 }

@@ -2,7 +2,7 @@
 use Rattle.std.proofs.Common.{◌≡◌, ℕ, zero, suc, ◌+◌, ◌-◌, ◌<◌, true, false, eqb, ◌⊎◌, List, [], ◌∷◌, ◌++◌, length, Ok, Err, Result, ap, inl, inr, arith}
 use Rattle.std.specs.List.{AllByRecursion}
 use Rattle.std.proofs.lemmas.List.{length_push}
-use Rattle.std.proofs.lemmas.Bool.{and_parts}
+use Rattle.std.proofs.lemmas.Bool.{and_parts, and_from}
 use Rattle.traffic.specs.declared.rate.Rate.{Rate}
 use Rattle.traffic.specs.declared.flow.Flow.{Flow}
 use Rattle.sheet.specs.declared.faults.LineFault.{LineFault}
@@ -53,6 +53,13 @@ module _ (text : List ℕ) (rate : Rate) (after : Cursor) (rated : rate_line (re
   -- all lines are read
   pub all_lines : (fs : List Flow) (end : Cursor) → flows_from 64 rate [] after ≡ Ok (fs, end) → eqb (length end.rest) 0 ≡ true → lines_of text ≡ Ok (record { rate = rate; flows = fs })
   all_lines fs end h none = rw (rated, h, none)
+
+-- one more that keeps its ranges
+pub all_kept_push : (r : Rate) (fs : List Flow) (f : Flow) → all_kept r fs ≡ true → flow_kept r f ≡ true → all_kept r (fs ++ (f ∷ [])) ≡ true
+all_kept_push r [] f all one = rw one
+all_kept_push r (g ∷ gs) f all one =
+    let both = and_parts (flow_kept r g) (all_kept r gs) all in
+    and_from (flow_kept r g) (all_kept r (gs ++ (f ∷ []))) both.0 (all_kept_push r gs f both.1 one)
 
 -- each period of these is some time
 pub periods_some : (r : Rate) (fs : List Flow) → all_kept r fs ≡ true → AllByRecursion (λ f. 0 < f.period) fs

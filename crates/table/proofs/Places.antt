@@ -1,11 +1,15 @@
 -- Where a record goes, and that the records stay in order.
-use Rattle.std.proofs.Common.{◌≡◌, ℕ, zero, suc, ◌+◌, ◌<◌, Bool, true, false, not, ◌&&◌, List, [], ◌∷◌, ◌++◌, length, take, drop, set, refl, ap, ◌∙◌, ⊎_elim, arith}
+use Rattle.std.proofs.Common.{◌≡◌, ℕ, zero, suc, ◌+◌, ◌<◌, ◌≤◌, Bool, true, false, not, ◌&&◌, List, [], ◌∷◌, ◌++◌, length, get_or, take, drop, set, sym, refl, ap, ◌∙◌, ⊎_elim, append_assoc, arith}
 use Rattle.std.specs.List.{AllByRecursion, HoldsAt, copy_within}
 use Rattle.std.proofs.lemmas.Bool.{cases_Bool, and_parts, and_from, and_right, not-true, not_from_false}
-use Rattle.std.proofs.lemmas.List.{length-take, take_at, drop_at}
+use Rattle.std.proofs.lemmas.List.{length-take, take_more, take_at, drop_at, get_or-take, at_drop_more}
 use Rattle.table.specs.Order.{none_before, in_order, before_each, placed, placed_last, Joined}
 use Rattle.table.specs.Calls.{PlaceFor, Put}
 use Rattle.table.proofs.Moves.{put_at}
+
+and_true : (t : Bool) → (t && true) ≡ t
+and_true true = refl
+and_true false = refl
 
 module _ {X : Type 0} (b : X → X → Bool) (x : X) where
   pub length-placed_last : (xs : List X) → length (placed_last b x xs) ≡ length xs + 1
@@ -32,6 +36,39 @@ module _ {X : Type 0} (b : X → X → Bool) (x : X) where
       let no : before_each b x (y ∷ ys) ≡ false = before_each-not (y ∷ ys) n (omega arith) (p.follows n (omega arith)) in
       let rest : PlaceFor b x ys n = record { within = omega arith; follows = λ k e. p.follows (suc k) (omega arith); leads = λ k v u. p.leads (suc k) (omega arith) (omega arith) } in
       rw no (ap (λ l. y ∷ l) (placed_last-at ys n rest))
+
+  before_each_push : (ys : List X) (y : X) → before_each b x (ys ++ (y ∷ [])) ≡ (before_each b x ys && b x y)
+  before_each_push [] y = ⊎_elim (λ e. rw e) (λ e. rw e) (cases_Bool (b x y))
+  before_each_push (z ∷ zs) y = ⊎_elim (λ e. rw e (before_each_push zs y)) (λ e. rw e) (cases_Bool (b x z))
+
+  -- x passes the last record that it is before
+  pub placed_last-past : (ys : List X) (y : X) → b x y ≡ true → placed_last b x (ys ++ (y ∷ [])) ≡ placed_last b x ys ++ (y ∷ [])
+  placed_last-past [] y h = rw h
+  placed_last-past (z ∷ zs) y h =
+      let step = placed_last-past zs y h in
+      let same : before_each b x (zs ++ (y ∷ [])) ≡ before_each b x zs = before_each_push zs y ∙ ap (λ t. before_each b x zs && t) h ∙ and_true (before_each b x zs) in
+      rw same (⊎_elim (λ e. rw e) (λ e. rw e (ap (λ l. z ∷ l) step)) (cases_Bool (b x z && before_each b x zs)))
+
+  -- and stops behind the last record that it is not before
+  pub placed_last_stop : (ys : List X) (y : X) → b x y ≡ false → placed_last b x (ys ++ (y ∷ [])) ≡ (ys ++ (y ∷ [])) ++ (x ∷ [])
+  placed_last_stop [] y h = rw h
+  placed_last_stop (z ∷ zs) y h =
+      let none : before_each b x (z ∷ (zs ++ (y ∷ []))) ≡ false = and_right (b x z) (before_each b x (zs ++ (y ∷ []))) (before_each_push zs y ∙ and_right (before_each b x zs) (b x y) h) in
+      rw none (ap (λ l. z ∷ l) (placed_last_stop zs y h))
+
+  -- the same over memory e, of which i records are left to compare, the last of them y
+  module _ (e : List X) (len i j : ℕ) (y : X) (is : i ≡ j + 1) (within : i ≤ len) (room : len < length e) (read : y ≡ get_or e j y) where
+    more : take i e ≡ take j e ++ (y ∷ [])
+    more = ap (λ k. take k e) is ∙ take_more e j y (omega arith) ∙ ap (λ v. take j e ++ (v ∷ [])) (sym read)
+
+    pub placed-take-past : b x y ≡ true → placed_last b x (take i e) ++ drop i (take len e) ≡ placed_last b x (take j e) ++ drop j (take len e)
+    placed-take-past h =
+        let here : get_or (take len e) j y ≡ y = get_or-take len e j y (omega arith) ∙ sym read in
+        let cut : drop j (take len e) ≡ y ∷ drop i (take len e) = at_drop_more (λ l. l) (take len e) j y (simp length-take (omega arith)) ∙ rw (here, is) in
+        rw (more, placed_last-past (take j e) y h, cut) (append_assoc (placed_last b x (take j e)) (y ∷ []) (drop i (take len e)))
+
+    pub placed-take_stop : b x y ≡ false → placed_last b x (take i e) ≡ take i e ++ (x ∷ [])
+    placed-take_stop h = rw more (placed_last_stop (take j e) y h)
 
 module _ {X : Type 0} {b : X → X → Bool} (asym : (x y : X) → b x y ≡ true → b y x ≡ false) (behind : (x y z : X) → b y x ≡ false → b z y ≡ false → b z x ≡ false) (x : X) where
   -- x is before each record that does not come before one that x is before

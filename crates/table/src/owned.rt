@@ -41,6 +41,7 @@ impl<T: Ordered + Copy + Default, const N: usize> Table<T, N> {
 
 impl<T: Ordered + Copy, const N: usize> Table<T, N> {
     // Does the table hold nothing?
+    #[inline]
     pub fn is_empty(&self) -> bool
         ensures { result ≡ (length self.now == 0) }
     {
@@ -48,6 +49,7 @@ impl<T: Ordered + Copy, const N: usize> Table<T, N> {
     }
 
     // The records, in their order.
+    #[inline]
     pub fn records(&self) -> &[T]
         ensures value { result.now ≡ self.now }
         ensures few { length self.now ≤ N }
@@ -57,6 +59,7 @@ impl<T: Ordered + Copy, const N: usize> Table<T, N> {
     }
 
     // The first record, if there is one.
+    #[inline]
     pub fn first(&self) -> Option<T>
         ensures { result ≡ slice_get self.now 0 }
     {
@@ -64,6 +67,7 @@ impl<T: Ordered + Copy, const N: usize> Table<T, N> {
     }
 
     // The record at a place, counted from 0, if there is one.
+    #[inline]
     pub fn show(&self, at: usize) -> Option<T>
         ensures { result ≡ slice_get self.now at }
     {
@@ -71,6 +75,7 @@ impl<T: Ordered + Copy, const N: usize> Table<T, N> {
     }
 
     // Puts a record behind its equals; refused, with nothing changed, where every place is taken.
+    #[inline]
     pub fn put(&mut self, x: T) -> Result<(), Full>
         ensures cases { MatchResult result (λ _. (length self.old < N) × (self.new ≡ placed T.before x self.old)) (λ _. (N ≤ length self.old) × (self.new ≡ self.old)) }
         ensures few { length self.new ≤ N }
@@ -81,6 +86,7 @@ impl<T: Ordered + Copy, const N: usize> Table<T, N> {
     }
 
     // Takes the first record; none where the table holds nothing.
+    #[inline]
     pub fn take_first(&mut self) -> Option<T>
         ensures cases { MatchOption result ((self.old ≡ []) × (self.new ≡ [])) (λ x. self.old ≡ x ∷ self.new) }
         ensures few { length self.old ≤ N }

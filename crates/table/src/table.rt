@@ -17,17 +17,33 @@ fn place_for<T: Ordered>(x: &T, held: &[T]) -> usize
         .map_or(0, |last| last + 1)
 }
 
-// Puts a record behind its equals, and answers the length after; refused, with nothing changed, where every place is taken.
-pub fn put<T: Ordered + Copy>(table: &mut [T], len: usize, x: T) -> Result<usize, Full>
+// Puts a record at the place that it goes to, where a caller knows that place already: else as `put`, which looks for it.
+#[inline]
+pub fn put_at<T: Ordered + Copy>(
+    table: &mut [T],
+    len: usize,
+    at: usize,
+    x: T,
+) -> Result<usize, Full>
+    requires { PlaceFor T.before x (take len table.old) at }
     ensures { MatchResult result (Put T.before x len table.old table.new) (λ _. Kept len table.old table.new) }
 {
     if len >= table.len() {
         return Err(Full);
     }
-    let at = place_for(&x, &table[..len]);
     table.copy_within(at..len, at + 1);
     table[at] = x;
     Ok(len + 1)
+}
+
+// Puts a record behind its equals, and answers the length after; refused, with nothing changed, where every place is taken.
+#[inline]
+pub fn put<T: Ordered + Copy>(table: &mut [T], len: usize, x: T) -> Result<usize, Full>
+    ensures { MatchResult result (Put T.before x len table.old table.new) (λ _. Kept len table.old table.new) }
+{
+    let held = len.min(table.len());
+    let at = place_for(&x, &table[..held]);
+    put_at(table, len, at, x)
 }
 
 // The record at a place, counted from 0, or none where the table holds no record there.

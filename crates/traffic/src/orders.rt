@@ -14,12 +14,15 @@ fn lightness(x: &Job) -> u8
 }
 
 // Queue order: earlier arrival, in queue 0 greater weight, earlier deadline, greater wire time, smaller flow.
+#[tactic(auto, using(crate::proofs::Total::queue_order))]
 pub fn queue_before(x: &Job, y: &Job) -> bool
     ensures value { result ≡ queue_before x.now y.now }
     ensures order { StrictOrder queue_before JobsDiffer }
 {
-    (x.arrival, lightness(x), x.deadline, y.wire, x.flow)
-        < (y.arrival, lightness(y), y.deadline, x.wire, y.flow)
+    x.arrival < y.arrival
+        || (x.arrival == y.arrival
+            && (lightness(x), x.deadline, y.wire, x.flow)
+                < (lightness(y), y.deadline, x.wire, y.flow))
 }
 
 // Delivery order: earlier arrival, then smaller flow.
@@ -27,7 +30,7 @@ pub fn delivered_before(p: &Packet, q: &Packet) -> bool
     ensures value { result ≡ delivered_before p.now q.now }
     ensures order { StrictOrder delivered_before PacketsDiffer }
 {
-    (p.arrival, p.flow) < (q.arrival, q.flow)
+    p.arrival < q.arrival || (p.arrival == q.arrival && p.flow < q.flow)
 }
 
 // The packets of a queue stand in queue order.

@@ -16,6 +16,7 @@ pub(super) struct Writer<'a> {
 
 impl Writer<'_> {
     // Writes `n` and then the byte `mark`.
+    #[inline]
     fn field(&mut self, n: u32, mark: u8)
         requires { self.old.at + length (decimal n) < length self.old.memory.now }
         ensures { Wrote (field_text n mark) self.old self.new }
@@ -27,6 +28,7 @@ impl Writer<'_> {
     }
 
     // Writes an entry's line; there is room for it, or for any line.
+    #[inline]
     pub(super) fn entry(&mut self, entry: Entry)
         requires { (self.old.at + length (entry_text entry) ≤ length self.old.memory.now) ⊎ (self.old.at + 30 ≤ length self.old.memory.now) }
         ensures wrote { Wrote (entry_text entry) self.old self.new }

@@ -9,6 +9,7 @@ use traffic::packet::{Job, job_of};
 
 impl Sheet {
     // Flow `index`, counted from 1, if it is there.
+    #[inline]
     pub fn flow(&self, index: u8) -> Option<Flow>
         ensures { result ≡ (if listed (traffic_of self.now).flows index then Some (flow_at (traffic_of self.now).flows index) else None) }
     {
@@ -17,6 +18,7 @@ impl Sheet {
     }
 
     // Packet `number` of flow `index`, both counted from 1; none where the flow is not there or the packet's deadline passes 64 bits.
+    #[inline]
     pub fn job(&self, index: u8, number: u64) -> Option<Job>
         ensures { result ≡ (if listed (traffic_of self.now).flows index && nat_lt (arrival (flow_at (traffic_of self.now).flows index) number + (flow_at (traffic_of self.now).flows index).deadline) (2 ^ 64) then Some (job (traffic_of self.now).rate index (flow_at (traffic_of self.now).flows index) number) else None) }
     {

@@ -1,4 +1,4 @@
--- The last digits stand from `place` on; `rest` is the number in front of them.
+-- All but the first digits stand from `place` on; `rest` is the number in front of them.
 use Rattle.gates.proofs.Spelling.{Spelling}
 use Rattle.gates.proofs.text.digits.write_digits.Given as goal
 
