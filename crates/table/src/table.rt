@@ -41,8 +41,10 @@ pub fn put_at<T: Ordered + Copy>(
 pub fn put<T: Ordered + Copy>(table: &mut [T], len: usize, x: T) -> Result<usize, Full>
     ensures { MatchResult result (Put T.before x len table.old table.new) (λ _. Kept len table.old table.new) }
 {
-    let held = len.min(table.len());
-    let at = place_for(&x, &table[..held]);
+    if table.len() <= len {
+        return Err(Full);
+    }
+    let at = place_for(&x, &table[..len]);
     put_at(table, len, at, x)
 }
 
