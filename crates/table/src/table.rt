@@ -41,6 +41,7 @@ pub fn put_at<T: Ordered + Copy>(
 pub fn put<T: Ordered + Copy>(table: &mut [T], len: usize, x: T) -> Result<usize, Full>
     ensures { MatchResult result (Put T.before x len table.old table.new) (λ _. Kept len table.old table.new) }
 {
+    // before the place is looked for, so that a refusal costs the same however many records there are
     if table.len() <= len {
         return Err(Full);
     }
